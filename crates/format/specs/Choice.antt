@@ -1,0 +1,103 @@
+-- What packing chooses (01, What packing chooses): the raster with its f and black bit, and the form.
+-- Assumes nothing: these are definitions.
+use Prim.Native.Nat.{ℕ, zero, suc, _+_, _*_, _/_, _≤_, _<_}
+use mathlib.Core.List.{List, [], _∷_}
+use mathlib.Core.Bool.{Bool, false, cond, _&&_}
+use lib.Dec.{eqb, leb, ltb}
+use lib.IntN.{natAbs}
+use lib.ListN.{length, drop, getD}
+use Rattle.format.specs.Refusals.{noForm, Result, ok, fault}
+use Rattle.format.specs.Numbers.{allHeld}
+use Rattle.format.specs.Measures.{wholePixels, sameScaled, Measures}
+use Rattle.format.specs.Pieces.{Form, short, extended, long, Escapement, kinds, fixed, lengthTop, Packet, values, dxOf, dyOf}
+use Rattle.format.specs.Rasters.{Item, writings}
+
+-- ---- f
+
+-- The nybbles over a count list, for f.
+unfoldable pub nybbleCount : List Item → ℕ → ℕ
+nybbleCount is f = length (writings f is)
+
+-- Of 0 to k the place where g is least; of equal ones, the largest.
+unfoldable pub leastOf : (ℕ → ℕ) → ℕ → ℕ
+leastOf g zero = 0
+leastOf g (suc k) = let b = leastOf g k in cond (leb (g (suc k)) (g b)) (suc k) b
+
+-- What `leastOf` is to be: no place has less, and no larger one as little.
+pub record Least (g : ℕ → ℕ) (k b : ℕ) : Type 0 where
+  pub inside : b ≤ k
+  pub least : (i : ℕ) → i ≤ k → g b ≤ g i
+  pub largest : (i : ℕ) → b < i → i ≤ k → g b < g i
+
+-- Of f = 0 to 13 the one with fewest nybbles.
+unfoldable pub fewest : List Item → ℕ
+fewest is = leastOf (nybbleCount is) 13
+
+-- f = 14 if its bytes are strictly fewer, and always for w = h = 0.
+unfoldable pub chosen : ℕ → ℕ → List Item → ℕ
+chosen w h is =
+    cond (eqb w 0) 14
+    (cond (ltb ((w * h + 7) / 8) ((nybbleCount is (fewest is) + 1) / 2)) 14 (fewest is))
+
+-- ---- the raster
+
+-- The bytes of nybbles, high half first, a spare half zero.
+unfoldable pub halves : List ℕ → List ℕ
+halves [] = []
+halves (a ∷ []) = (a * 16) ∷ []
+halves (a ∷ b ∷ xs) = (a * 16 + b) ∷ halves xs
+
+-- The byte of the next k pixels after those that came to v, most significant first; pixels that lack are zero bits.
+unfoldable pub byteOf : ℕ → ℕ → List ℕ → ℕ
+byteOf v zero xs = v
+byteOf v (suc k) [] = byteOf (2 * v) k []
+byteOf v (suc k) (x ∷ xs) = byteOf (2 * v + x) k xs
+
+-- The n bytes of pixels, eight to each.
+unfoldable pub bitBytes : ℕ → List ℕ → List ℕ
+bitBytes zero xs = []
+bitBytes (suc n) xs = byteOf 0 8 xs ∷ bitBytes n (drop 8 xs)
+
+unfoldable pub rasterOf : ℕ → List Item → List ℕ → List ℕ
+rasterOf f is b = cond (eqb f 14) (bitBytes ((length b + 7) / 8) b) (halves (writings f is))
+
+-- The first run's colour; for f = 14 the black bit is 0.
+unfoldable pub firstBlack : ℕ → List ℕ → Bool
+firstBlack f b = cond (eqb f 14) false (eqb (getD b 0 0) 1)
+
+-- ---- the form
+
+-- The packet with these measures in the form k.
+abbrev pub packetIn : ℕ → Bool → Measures → (k : Form) → Escapement k → List ℕ → Packet
+packetIn f black m k e raster =
+    record {
+      f = f;
+      black = black;
+      form = k;
+      code = natAbs (m .code);
+      tfm = m .tfm;
+      escapement = e;
+      w = natAbs (m .w);
+      h = natAbs (m .h);
+      hoff = m .hoff;
+      voff = m .voff;
+      raster = raster;
+    }
+
+-- The escapement as the form k would say it.
+abbrev pub escapementIn : (k : Form) → Measures → Escapement k
+escapementIn short m = wholePixels (m .dx)
+escapementIn extended m = wholePixels (m .dx)
+escapementIn long m = (m .dx, m .dy)
+
+-- The form k says that escapement, and holds every field and the length of a packet with n raster bytes.
+unfoldable pub holds : Form → Measures → ℕ → Bool
+holds k m n =
+    let e = escapementIn k m in
+    (sameScaled (dxOf k e) (m .dx) && sameScaled (dyOf k e) (m .dy))
+    && (ltb (fixed k + n) (lengthTop k) && allHeld (kinds k) (values k e (packetIn 0 false m k e []) (fixed k + n)))
+
+-- The first of short, extended, long that does; 20 if none does.
+unfoldable pub formFor : Measures → ℕ → Result Form
+formFor m n =
+    cond (holds short m n) (ok short) (cond (holds extended m n) (ok extended) (cond (holds long m n) (ok long) (fault noForm)))

@@ -1,0 +1,43 @@
+-- Drawing a code (01, The job and its edges; Numbers given back): font faults first, then 16, then 17, or the measures and pixels.
+-- Assumes nothing: these are definitions.
+use Prim.Native.Nat.{ℕ, _*_, _/_}
+use mathlib.Core.List.{List, [], _∷_}
+use mathlib.Core.Bool.{cond}
+use lib.Dec.{eqb, leb}
+use lib.ListN.{length, take}
+use Rattle.format.specs.Refusals.{noSuchCode, noRoom, Answer, gives, refused, Result, ok, fault, _>>=_, need, answerAt}
+use Rattle.format.specs.Measures.{Measures}
+use Rattle.format.specs.Pieces.{Packet, measures}
+use Rattle.format.specs.Rasters.{Item, string, picture, bits, colour}
+use Rattle.format.specs.Cut.{packets, Parts}
+use Rattle.format.specs.Reading.{items}
+use Rattle.format.specs.Verdict.{verdict}
+
+-- The pixels of a packet whose raster has these items, rows top to bottom, left to right.
+unfoldable pub drawnBy : Packet → Result (List Item) → List ℕ
+drawnBy p (fault x) = []
+drawnBy p (ok is) =
+    cond (eqb (p .f) 14) (take (p .w * p .h) (bits (p .raster)))
+    (picture (p .w) (colour (p .black)) (length (string (colour (p .black)) is) / p .w) is)
+
+unfoldable pub pixelsOf : Packet → List ℕ
+pixelsOf p = drawnBy p (items (p .f) (p .w) (p .h) (p .raster))
+
+-- The packet of a code, wherever it stands.
+unfoldable pub find : ℕ → List Packet → Result Packet
+find code [] = fault noSuchCode
+find code (p ∷ ps) = cond (eqb code (p .code)) (ok p) (find code ps)
+
+-- A packet's drawing into a buffer of `room` bytes.
+unfoldable pub drawn : ℕ → Packet → Result (Measures × List ℕ)
+drawn room p = do
+  _ ← need (leb (p .w * p .h) room) noRoom
+  ok (measures p, pixelsOf p)
+
+unfoldable pub drawFrom : ℕ → ℕ → Answer Parts → Answer (Measures × List ℕ)
+drawFrom code room (refused r place) = refused r place
+drawFrom code room (gives x) = answerAt 0 (find code (packets (x .pieces)) >>= drawn room)
+
+-- The answer to a font, a code and a lent buffer of `room` bytes.
+unfoldable pub draw : List ℕ → ℕ → ℕ → Answer (Measures × List ℕ)
+draw s code room = drawFrom code room (verdict s)

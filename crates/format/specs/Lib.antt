@@ -1,0 +1,14 @@
+pub mod Limits
+pub mod Refusals
+pub mod Numbers
+pub mod Measures
+pub mod Pieces
+pub mod Packed
+pub mod Rasters
+pub mod Cut
+pub mod Reading
+pub mod Verdict
+pub mod Drawing
+pub mod Counts
+pub mod Choice
+pub mod Packing

@@ -1,0 +1,77 @@
+-- Many-byte numbers (01, Pieces of a file): the first byte is most significant; four-byte ones are signed, two's complement.
+-- Assumes nothing: these are definitions.
+use Prim.Native.Nat.{ℕ, zero, suc, _+_, _-_, _*_, _/_, _%_, _^_, _<_}
+use mathlib.Core.List.{List, [], _∷_, _++_}
+use mathlib.Core.Bool.{Bool, true, false, cond, _&&_}
+use lib.Dec.{leb, ltb}
+use lib.IntN.{ℤ, pos, negsuc}
+use lib.ListN.{drop}
+
+-- Each is a byte.
+abbrev pub Bytes : List ℕ → Type 0
+Bytes [] = Unit {0}
+Bytes (b ∷ s) = (b < 256) × Bytes s
+
+-- n in k bytes.
+unfoldable pub bytes : ℕ → ℕ → List ℕ
+bytes zero n = []
+bytes (suc k) n = n / 256 ^ k ∷ bytes k (n % 256 ^ k)
+
+-- The number that the first k bytes are.
+unfoldable pub number : ℕ → List ℕ → ℕ
+number zero s = 0
+number (suc k) [] = 0
+number (suc k) (b ∷ s) = b * 256 ^ k + number k s
+
+-- ---- fields
+
+-- A field of k bytes: unsigned, 01's name[k], or signed, 01's name[+k] and every name[4].
+pub data Kind : Type 0 where
+  unsigned : ℕ → Kind
+  signed : ℕ → Kind
+
+abbrev pub width : Kind → ℕ
+width (unsigned k) = k
+width (signed k) = k
+
+-- The values that a field holds; negsuc n is −(n + 1).
+unfoldable pub held : Kind → ℤ → Bool
+held (unsigned k) (pos n) = ltb n (256 ^ k)
+held (unsigned k) (negsuc n) = false
+held (signed k) (pos n) = ltb (2 * n) (256 ^ k)
+held (signed k) (negsuc n) = leb (2 * suc n) (256 ^ k)
+
+-- A value as the number that its k bytes are: two's complement.
+unfoldable pub twos : ℕ → ℤ → ℕ
+twos k (pos n) = n
+twos k (negsuc n) = 256 ^ k - suc n
+
+-- The value of a field whose bytes are the number n.
+unfoldable pub valueOf : Kind → ℕ → ℤ
+valueOf (unsigned k) n = pos n
+valueOf (signed k) n = cond (ltb (2 * n) (256 ^ k)) (pos n) (negsuc (256 ^ k - suc n))
+
+-- ---- fields in a row
+
+-- A value for each field.
+abbrev pub Values : List Kind → Type 0
+Values [] = Unit {0}
+Values (k ∷ ks) = ℤ × Values ks
+
+unfoldable pub allHeld : (ks : List Kind) → Values ks → Bool
+allHeld [] v = true
+allHeld (k ∷ ks) v = held k (v .0) && allHeld ks (v .1)
+
+abbrev pub size : List Kind → ℕ
+size [] = 0
+size (k ∷ ks) = width k + size ks
+
+-- The fields' bytes.
+unfoldable pub fieldBytes : (ks : List Kind) → Values ks → List ℕ
+fieldBytes [] v = []
+fieldBytes (k ∷ ks) v = bytes (width k) (twos (width k) (v .0)) ++ fieldBytes ks (v .1)
+
+-- The values that stand in the first bytes.
+unfoldable pub readFields : (ks : List Kind) → List ℕ → Values ks
+readFields [] s = tt
+readFields (k ∷ ks) s = (valueOf k (number (width k) s), readFields ks (drop (width k) s))
