@@ -1,0 +1,10 @@
+pub mod Tests
+pub mod PackedLaws
+pub mod PackedEdges
+pub mod Table
+pub mod LimitTable
+pub mod FieldLaws
+pub mod PieceLaws
+pub mod CutLaws
+pub mod ItemLaws
+pub mod RasterLaws
