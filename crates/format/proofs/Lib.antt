@@ -8,3 +8,4 @@ pub mod PieceLaws
 pub mod CutLaws
 pub mod ItemLaws
 pub mod RasterLaws
+pub mod Worked
