@@ -8,4 +8,6 @@ pub mod PieceLaws
 pub mod CutLaws
 pub mod ItemLaws
 pub mod RasterLaws
+pub mod Questions
 pub mod Worked
+pub mod Rows

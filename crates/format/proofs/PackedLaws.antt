@@ -9,8 +9,23 @@ use native.Mathlib.Omega.{arith}
 use lib.Dec.{leb, ltb}
 use lib.ListN.{length, replicate, length-append, length-replicate}
 use borrow.Author.Tests.{le-ltb, lt-ltb, le-leb, lt-leb}
-use Rattle.format.specs.Packed.{limit, hex, zerosF, zerosOf, large, encode, Got, value, ends, mark, digits, zeros, shift, second, decode, Nybbles}
+use Rattle.format.specs.Numbers.{Bytes}
+use Rattle.format.specs.Packed.{nybbles, limit, hex, zerosF, zerosOf, large, encode, Got, value, ends, mark, digits, zeros, shift, second, decode, Nybbles}
 use Rattle.format.proofs.Tests.{split}
+
+-- ---- nybbles of bytes
+
+-- There are two nybbles for each byte.
+pub length-nybbles : (s : List ℕ) → length (nybbles s) ≡ 2 * length s
+unfolding nybbles
+length-nybbles [] = refl
+length-nybbles (b ∷ s) = omega (arith, length-nybbles s)
+
+-- The halves of bytes are nybbles.
+pub bytes-nybbles : (s : List ℕ) → Bytes s → Nybbles (nybbles s)
+unfolding nybbles
+bytes-nybbles [] h = tt
+bytes-nybbles (b ∷ s) h = let l = h .0 in (omega arith, (omega arith, bytes-nybbles s (h .1)))
 
 -- ---- the equations of `large`
 

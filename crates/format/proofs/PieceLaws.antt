@@ -196,8 +196,8 @@ module _ (b : ℕ) (raster : List ℕ) where
       let h2 = and-true (held (unsigned 1) (v .1 .0)) _ h1 .1 in
       let h3 = and-true (held (unsigned 3) (v .1 .1 .0)) _ h2 .1 in
       let dm = plain-held 1 (v .1 .1 .1 .0) (and-true (held (unsigned 1) (v .1 .1 .1 .0)) _ h3 .0) .0 in
-      let y : b % 4 * 256 + natAbs (v .0) ≡ 8 + length raster = ap natAbs n in
-      let z : pos ((8 + length raster) % 256) ≡ v .0 = ap pos (omega arith) ∙ x .0 in
+      let y : b % 4 * 256 + natAbs (v .0) ≡ fixed short + length raster = ap natAbs n in
+      let z : pos ((fixed short + length raster) % 256) ≡ v .0 = ap pos (omega arith) ∙ x .0 in
       record { same = rw (z, c, dm, w, h); held = rw (z, c, dm, w, h); head = omega (arith, black-back b); bound = omega arith }
   rebuilt extended l v hs n c w h =
       let x = plain-held 2 (v .0) (and-true (held (unsigned 2) (v .0)) _ hs .0) in
@@ -205,11 +205,11 @@ module _ (b : ℕ) (raster : List ℕ) where
       let h2 = and-true (held (unsigned 1) (v .1 .0)) _ h1 .1 in
       let h3 = and-true (held (unsigned 3) (v .1 .1 .0)) _ h2 .1 in
       let dm = plain-held 2 (v .1 .1 .1 .0) (and-true (held (unsigned 2) (v .1 .1 .1 .0)) _ h3 .0) .0 in
-      let y : b % 4 * 65536 + natAbs (v .0) ≡ 13 + length raster = ap natAbs n in
-      let z : pos ((13 + length raster) % 65536) ≡ v .0 = ap pos (omega arith) ∙ x .0 in
+      let y : b % 4 * 65536 + natAbs (v .0) ≡ fixed extended + length raster = ap natAbs n in
+      let z : pos ((fixed extended + length raster) % 65536) ≡ v .0 = ap pos (omega arith) ∙ x .0 in
       record { same = rw (z, c, dm, w, h); held = rw (z, c, dm, w, h); head = omega (arith, black-back b); bound = omega arith }
   rebuilt long l v hs n c w h =
-      let x = signed-held 4 (28 + length raster) (v .0) n (and-true (held (signed 4) (v .0)) _ hs .0) in
+      let x = signed-held 4 (fixed long + length raster) (v .0) n (and-true (held (signed 4) (v .0)) _ hs .0) in
       record { same = rw (← n, c, w, h); held = rw (← n, c, w, h); head = omega (arith, black-back b); bound = omega arith }
 
 under-false : (z : ℤ) (m : ℕ) → under z m ≡ false → (z ≡ pos (natAbs z)) × (m ≤ natAbs z)

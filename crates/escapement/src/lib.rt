@@ -1,0 +1,20 @@
+// The two counts of an escapement, which are never taken for one another.
+ghost use mathlib.Core.Path.{_≡_};
+ghost use Rattle.format.specs.Measures.{toScaled};
+ghost use Rattle.escapement.specs.Count.{wholeOf, scaledOf};
+
+// In whole pixels.
+pub struct Pixels(pub u32);
+
+// In pixels times 65,536.
+pub struct Scaled(pub i64);
+
+impl Pixels {
+    // The one conversion, in 64 bits: 65,535 pixels are 4,294,901,760.
+    pub fn scaled(self) -> Scaled
+        ensures { λ r. ⌜ scaledOf r ≡ toScaled (wholeOf self) ⌝ }
+    {
+        let n = self.0 as u64 * 65536;
+        Scaled(n as i64)
+    }
+}

@@ -1,0 +1,87 @@
+-- An example for each row of 01's table of refusals, with its place, and for the order of the checks: one list, one statement.
+-- Assumes nothing.
+use Prim.Native.Nat.{ℕ}
+use mathlib.Core.Path.{refl}
+use mathlib.Core.List.{List, [], _∷_, _++_}
+use lib.IntN.{ℤ, pos, negsuc}
+use lib.ListN.{take, replicate}
+use Rattle.format.specs.Measures.{scaled, Measures}
+use Rattle.format.proofs.Questions.{Question, checks, draws, packs, Reply, it, list, refusal, reply, Given, preamble, font, plain, short, letter, letterMeasures, letterPacket}
+
+-- A long packet with f = 14: its length, code, w and h in four bytes each, all else zero.
+abbrev long : List ℕ → List ℕ → List ℕ → List ℕ → List ℕ → List ℕ
+long n code w h raster = 0xE7 ∷ (n ++ (code ++ (replicate 12 0 ++ (w ++ (h ++ (replicate 8 0 ++ raster))))))
+
+abbrev four : ℕ → ℕ → ℕ → ℕ → List ℕ
+four a b c d = a ∷ b ∷ c ∷ d ∷ []
+
+-- The letter's measures with other escapements, and with another code.
+abbrev moving : ℤ → ℤ → Measures
+moving dx dy =
+    record { code = pos 4; w = pos 20; h = pos 29; tfm = pos 640796; dx = scaled dx; dy = scaled dy; hoff = negsuc 1; voff = pos 28 }
+
+abbrev coded : ℤ → Measures
+coded code =
+    record { code = code; w = pos 20; h = pos 29; tfm = pos 640796; dx = scaled (pos 1638400); dy = scaled (pos 0); hoff = negsuc 1; voff = pos 28 }
+
+abbrev pub rows : List (Question × Reply)
+rows =
+    (checks (replicate 65537 0), refusal 1 0)
+    ∷ (checks [], refusal 2 0) ∷ (checks (246 ∷ 88 ∷ []), refusal 2 0)
+    ∷ (checks (247 ∷ 88 ∷ []), refusal 3 0)
+    -- inside the preamble; where a piece must begin; inside a command, also in its length; inside a packet's fixed part, although its
+    -- length is too small; inside its raster
+    ∷ (checks (247 ∷ []), refusal 4 0) ∷ (checks (take 18 preamble), refusal 4 0) ∷ (checks preamble, refusal 4 19)
+    ∷ (checks (preamble ++ 240 ∷ 2 ∷ 0 ∷ []), refusal 4 19) ∷ (checks (preamble ++ 246 ∷ 241 ∷ 0 ∷ []), refusal 4 20)
+    ∷ (checks (preamble ++ 244 ∷ 0 ∷ 0 ∷ 0 ∷ []), refusal 4 19) ∷ (checks (preamble ++ 0 ∷ 7 ∷ []), refusal 4 19)
+    ∷ (checks (preamble ++ take 28 letterPacket), refusal 4 19)
+    ∷ (checks (preamble ++ 247 ∷ []), refusal 5 19) ∷ (checks (preamble ++ 255 ∷ []), refusal 5 19)
+    -- a command's negative length; packet lengths below the fixed fields, and negative
+    ∷ (checks (preamble ++ 243 ∷ four 255 255 255 255), refusal 6 19) ∷ (checks (font (0xE0 ∷ 7 ∷ replicate 9 0)), refusal 6 19)
+    ∷ (checks (font (long (four 0 0 0 27) (four 0 0 0 4) (four 0 0 0 1) (four 0 0 0 1) (0x80 ∷ []))), refusal 6 19)
+    ∷ (checks (font (long (four 255 255 255 255) (four 0 0 0 4) (four 0 0 0 1) (four 0 0 0 1) (0x80 ∷ []))), refusal 6 19)
+    -- w, h of 0 and 1; −1 and −1; 257 and 256; and 65,536 and 1 are within the limits
+    ∷ (checks (font (short 0xE0 0 1 [])), refusal 7 19)
+    ∷ (checks (font (long (four 0 0 0 29) (four 0 0 0 4) (four 255 255 255 255) (four 255 255 255 255) (0x80 ∷ []))), refusal 7 19)
+    ∷ (checks (font (long (four 0 0 0 29) (four 0 0 1 0) (four 0 0 1 1) (four 0 0 1 0) (0x80 ∷ []))), refusal 7 19)
+    ∷ (checks (font (long (four 0 0 0 29) (four 0 0 0 4) (four 0 1 0 0) (four 0 0 0 1) (0x80 ∷ []))), refusal 10 19)
+    -- the codes 256 and −1
+    ∷ (checks (font (long (four 0 0 0 29) (four 0 0 1 0) (four 0 0 0 1) (four 0 0 0 1) (0x80 ∷ []))), refusal 8 19)
+    ∷ (checks (font (long (four 0 0 0 29) (four 255 255 255 255) (four 0 0 0 1) (four 0 0 0 1) (0x80 ∷ []))), refusal 8 19)
+    ∷ (checks (font (letterPacket ++ short 0xD8 1 1 (0x20 ∷ []))), refusal 9 48)
+    -- a number that ends; 14 at the end; too few bits
+    ∷ (checks (font (short 0xD8 2 2 (0x30 ∷ []))), refusal 10 19) ∷ (checks (font (short 0xD8 2 2 (0x1E ∷ []))), refusal 10 19)
+    ∷ (checks (font (short 0xE0 3 3 (0xFF ∷ []))), refusal 10 19)
+    -- a run of 3 where the repeat fills the row after; a repeat on the last row
+    ∷ (checks (font (short 0xD8 2 2 (0xF3 ∷ []))), refusal 11 19) ∷ (checks (font (short 0xD8 2 2 (0x2F ∷ 0x20 ∷ []))), refusal 11 19)
+    -- a second repeat although its number is unfinished; 14 after 14
+    ∷ (checks (font (short 0xD8 2 2 (0xFE ∷ []))), refusal 12 19) ∷ (checks (font (short 0xD8 2 2 (0xEE ∷ 0x11 ∷ []))), refusal 12 19)
+    -- a byte left over; spare bits; raster bytes with w = h = 0, and none
+    ∷ (checks (font (short 0xD8 2 2 (0x40 ∷ 0x00 ∷ []))), refusal 13 19) ∷ (checks (font (short 0xE0 2 2 (0xA8 ∷ []))), refusal 13 19)
+    ∷ (checks (font (short 0xE0 2 2 (0xA0 ∷ 0x00 ∷ []))), refusal 13 19)
+    ∷ (checks (font (short 0x08 0 0 (0x00 ∷ []))), refusal 13 19) ∷ (checks (font (short 0x08 0 0 [])), it 1)
+    -- a byte more than a multiple of four; a byte after 245 that is no 246; and 245 at the very end
+    ∷ (checks (font letterPacket ++ 246 ∷ []), refusal 14 48) ∷ (checks (preamble ++ (letterPacket ++ 245 ∷ 246 ∷ 247 ∷ 246 ∷ [])), refusal 14 48)
+    ∷ (checks (preamble ++ (letterPacket ++ 246 ∷ 246 ∷ 246 ∷ 245 ∷ [])), it 1)
+    ∷ (checks (preamble ++ 245 ∷ []), refusal 15 19) ∷ (checks (preamble ++ 245 ∷ 247 ∷ []), refusal 15 19)
+    -- codes in falling order, and commands between the packets, are in order
+    ∷ (checks (font (240 ∷ 1 ∷ 7 ∷ (letterPacket ++ (244 ∷ (four 1 2 3 4 ++ (0xD8 ∷ 9 ∷ 3 ∷ 0 ∷ 0 ∷ 0 ∷ 0 ∷ 1 ∷ 1 ∷ 0 ∷ 0 ∷ 0x10 ∷ [])))))), it 2)
+    -- a code that the font lacks, before a buffer that is too short; codes above 255; the font's own fault before both
+    ∷ (draws (font letterPacket) 5 0, refusal 16 0) ∷ (draws (font letterPacket) 260 65536, refusal 16 0)
+    ∷ (draws (font (short 0xD8 2 2 (0x41 ∷ []))) 5 0, refusal 13 19)
+    ∷ (draws (font letterPacket) 4 579, refusal 17 0)
+    -- packing: 18 before 19 before 8 before 20 before 17
+    ∷ (packs (plain (pos 0) (pos 1)) [] 0, refusal 18 0) ∷ (packs (plain (pos 65536) (pos 65536)) (1 ∷ []) 0, refusal 18 0)
+    ∷ (packs (plain (negsuc 0) (negsuc 0)) (1 ∷ []) 0, refusal 18 0)
+    ∷ (packs (coded (pos 256)) (1 ∷ []) 0, refusal 19 0) ∷ (packs (plain (pos 1) (pos 1)) (2 ∷ []) 0, refusal 19 0)
+    ∷ (packs (coded (pos 256)) letter 0, refusal 8 0) ∷ (packs (coded (negsuc 0)) letter 0, refusal 8 0)
+    -- dx of 2³¹ with a dy that only the long form holds; dx of 65,536 whole pixels
+    ∷ (packs (moving (pos 2147483648) (pos 1)) letter 0, refusal 20 0) ∷ (packs (moving (pos 4294967296) (pos 0)) letter 0, refusal 20 0)
+    ∷ (packs letterMeasures letter 28, refusal 17 0)
+    ∷ (packs (plain (pos 0) (pos 0)) [] 11, list (short 0xE0 0 0 []))
+    ∷ []
+
+-- The definitions give each.
+pub rows-given : Given rows
+unfolding reply
+rows-given = refl
