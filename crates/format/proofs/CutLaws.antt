@@ -3,12 +3,13 @@ use Prim.Native.Nat.{ℕ}
 use mathlib.Core.Path.{_≡_, refl, sym, ap, _∙_}
 use mathlib.Core.List.{List, [], _∷_, _++_, append-assoc}
 use native.Mathlib.Omega.{arith}
-use lib.ListN.{length, take, drop, replicate, length-replicate}
+use lib.ListN.{length, take, drop, length-replicate}
 use lib.Seq.{take-append-seam, drop-append-seam, drop-at}
 use Rattle.format.specs.Numbers.{fieldBytes, readFields}
 use Rattle.format.specs.Pieces.{Preamble, preambleKinds, preambleValues, preambleBytes, PreambleOk, Piece, bytesOf}
 use Rattle.format.specs.Cut.{flat, AllOk, Parts, join, Cut}
-use Rattle.format.specs.Verdict.{Step, piece, last, step, preambleOf}
+use Rattle.format.specs.Refusals.{ok}
+use Rattle.format.specs.Verdict.{piece, last, step, preambleOf}
 use Rattle.format.proofs.FieldLaws.{length-fields, read-fields}
 use Rattle.format.proofs.PieceLaws.{step-piece}
 
@@ -17,13 +18,13 @@ pub one-list : (ps qs : List Piece) (r t : List ℕ) → AllOk ps → AllOk qs �
 unfolding flat step
 one-list [] [] r t a b e = (refl, cc)
 one-list [] (q ∷ qs) r t a b e =
-    let x : last r ≡ piece q (flat qs ++ 245 ∷ t) = ap step (e ∙ append-assoc (bytesOf q) (flat qs) (245 ∷ t)) ∙ step-piece q (flat qs ++ 245 ∷ t) (b .0) in
+    let x : ok (last r) ≡ ok (piece q (flat qs ++ 245 ∷ t)) = ap step (e ∙ append-assoc (bytesOf q) (flat qs) (245 ∷ t)) ∙ step-piece q (flat qs ++ 245 ∷ t) (b .0) in
     absurd (let z : _≡_ {A = ℕ} 0 1 = cc in omega arith)
 one-list (p ∷ ps) [] r t a b e =
-    let x : piece p (flat ps ++ 245 ∷ r) ≡ last t = sym (step-piece p (flat ps ++ 245 ∷ r) (a .0)) ∙ ap step (sym (append-assoc (bytesOf p) (flat ps) (245 ∷ r)) ∙ e) in
+    let x : ok (piece p (flat ps ++ 245 ∷ r)) ≡ ok (last t) = sym (step-piece p (flat ps ++ 245 ∷ r) (a .0)) ∙ ap step (sym (append-assoc (bytesOf p) (flat ps) (245 ∷ r)) ∙ e) in
     absurd (let z : _≡_ {A = ℕ} 0 1 = cc in omega arith)
 one-list (p ∷ ps) (q ∷ qs) r t a b e =
-    let x : piece p (flat ps ++ 245 ∷ r) ≡ piece q (flat qs ++ 245 ∷ t) =
+    let x : ok (piece p (flat ps ++ 245 ∷ r)) ≡ ok (piece q (flat qs ++ 245 ∷ t)) =
     sym (step-piece p (flat ps ++ 245 ∷ r) (a .0))
     ∙ ap step (sym (append-assoc (bytesOf p) (flat ps) (245 ∷ r)) ∙ e ∙ append-assoc (bytesOf q) (flat qs) (245 ∷ t))
     ∙ step-piece q (flat qs ++ 245 ∷ t) (b .0) in
@@ -39,14 +40,14 @@ front (a ∷ b ∷ k ∷ s) = (preambleOf (take k s) (readFields preambleKinds (
 
 preamble-front : (a : Preamble) (t : List ℕ) → PreambleOk a → front (preambleBytes a ++ t) ≡ (a, t)
 unfolding front preambleBytes
-preamble-front a t ok =
+preamble-front a t o =
     let x = a .comment in
     let b = fieldBytes preambleKinds (preambleValues a) in
     rw (
       append-assoc x b t,
       take-append-seam x (b ++ t),
       drop-append-seam x (b ++ t),
-      read-fields preambleKinds (preambleValues a) t (ok .fields),
+      read-fields preambleKinds (preambleValues a) t (o .fields),
       drop-at b t 16 (length-fields preambleKinds (preambleValues a)),
     )
 

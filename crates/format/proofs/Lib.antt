@@ -8,6 +8,7 @@ pub mod PieceLaws
 pub mod CutLaws
 pub mod ItemLaws
 pub mod RasterLaws
+pub mod CommandLaws
 pub mod Questions
 pub mod Worked
 pub mod Rows

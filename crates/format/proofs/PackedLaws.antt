@@ -6,14 +6,19 @@ use mathlib.Core.List.{List, [], _∷_, _++_, append-assoc}
 use mathlib.Core.Bool.{cond}
 use native.Mathlib.Nat.{div-add-mod', pow-suc}
 use native.Mathlib.Omega.{arith}
-use lib.Dec.{leb, ltb}
+use lib.Dec.{leb}
 use lib.ListN.{length, replicate, length-append, length-replicate}
 use borrow.Author.Tests.{le-ltb, lt-ltb, le-leb, lt-leb}
 use Rattle.format.specs.Numbers.{Bytes}
-use Rattle.format.specs.Packed.{nybbles, limit, hex, zerosF, zerosOf, large, encode, Got, value, ends, mark, digits, zeros, shift, second, decode, Nybbles}
+use Rattle.format.specs.Packed.{nybbles, limit, hex, zerosF, zerosOf, large, encode, Got, value, ends, mark, digits, zeros, shift, second, decode}
 use Rattle.format.proofs.Tests.{split}
 
 -- ---- nybbles of bytes
+
+-- Each is a nybble.
+abbrev pub Nybbles : List ℕ → Type 0
+Nybbles [] = Unit {0}
+Nybbles (x ∷ xs) = (x < 16) × Nybbles xs
 
 -- There are two nybbles for each byte.
 pub length-nybbles : (s : List ℕ) → length (nybbles s) ≡ 2 * length s

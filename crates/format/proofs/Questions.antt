@@ -5,18 +5,19 @@ use mathlib.Core.List.{List, [], _∷_, _++_, map}
 use lib.IntN.{ℤ, pos, negsuc}
 use lib.ListN.{length, replicate}
 use Rattle.format.specs.Limits.{inLimits, isBox, isCode}
-use Rattle.format.specs.Refusals.{Told, says, refuses, told, row, _>>=_, need, answerAt}
+use Rattle.format.specs.Lists.{all, elem, same}
+use Rattle.format.specs.Refusals.{Told, says, refuses, numberAndPlace, told, answers, _>>=_, need, answerAt}
 use Rattle.format.specs.Numbers.{bytes, number, held, twos, valueOf, allHeld, fieldBytes, readFields}
-use Rattle.format.specs.Measures.{Scaled, scaled, toScaled, wholePixels, sameScaled, Measures}
-use Rattle.format.specs.Pieces.{flag, measures, bytesOf}
-use Rattle.format.specs.Packed.{nybbles, hex, zerosF, zerosOf, large, encode, Got, value, ends, mark, digits, zeros, shift, second, decode}
+use Rattle.format.specs.Measures.{Scaled, scaled, Measures, toScaled, wholePixels, sameScaled}
+use Rattle.format.specs.Pieces.{flag, fits, measures, bytesOf}
+use Rattle.format.specs.Packed.{Got, value, ends, mark, nybbles, hex, zerosF, zerosOf, large, encode, digits, zeros, shift, second, decode}
 use Rattle.format.specs.Rasters.{written, writings, string, repeats, rows, sum, sent, joined, picture, bitsOf, bits}
-use Rattle.format.specs.Cut.{packets, elem}
-use Rattle.format.specs.Reading.{numberOf, runAt, repeatAt, itemOf, ran, again, moved, finish, turn, walk, reading, bitsRead, noneRead, items}
-use Rattle.format.specs.Verdict.{formOf, rasterAt, under, headedAt, packetAt, bodyAt, specialAt, numericAt, step, add, checked, orElse, prepend, isNil, all246, ending, next, onwardF, onward, preambleAt, begin, verdict, counted, check}
+use Rattle.format.specs.Cut.{packets, codes}
+use Rattle.format.specs.Reading.{numberOf, runAt, repeatAt, itemOf, afterRun, afterRepeat, afterItem, finish, turn, walk, reading, bitsRead, noneRead, items}
+use Rattle.format.specs.Verdict.{atLeast, formOf, rasterAt, packetAt, specialAt, numericAt, step, checked, orElse, prepend, isNil, ending, next, onwardF, onward, preambleAt, begin, verdict, check}
 use Rattle.format.specs.Drawing.{drawnBy, pixelsOf, find, drawn, drawFrom, draw}
-use Rattle.format.specs.Counts.{all, mixed, same, above, kept, placed, lastOf, strung, grow, runs, before, listed, counts}
-use Rattle.format.specs.Choice.{nybbleCount, leastOf, fewest, chosen, halves, byteOf, bitBytes, rasterOf, firstBlack, holds, formFor}
+use Rattle.format.specs.Counts.{mixed, above, kept, placed, lastOf, strung, grow, runs, before, listed, counts}
+use Rattle.format.specs.Choice.{nybbleCount, leastOf, fewest, chosen, halves, byteOf, bitBytes, rasterOf, firstBlack, inForm, holds, firstForm}
 use Rattle.format.specs.Packing.{allPixels, packetFor, packed, pack}
 
 pub data Question : Type 0 where
@@ -68,7 +69,7 @@ packReply (refuses n place) = refusal n place
 
 -- The definitions' reply. All that they say computes where `reply` is unfolded.
 unfoldable pub reply : Question → Reply
-unfolding readReply count drawReply packReply checkReply inLimits isBox isCode told row _>>=_ need answerAt bytes number held twos valueOf allHeld fieldBytes readFields toScaled wholePixels sameScaled flag measures bytesOf nybbles hex zerosF zerosOf large encode digits zeros shift second decode written writings string repeats rows sum sent joined picture bitsOf bits packets elem numberOf runAt repeatAt itemOf ran again moved finish turn walk reading bitsRead noneRead items formOf rasterAt under headedAt packetAt bodyAt specialAt numericAt step add checked orElse prepend isNil all246 ending next onwardF onward preambleAt begin verdict counted check drawnBy pixelsOf find drawn drawFrom draw all mixed same above kept placed lastOf strung grow runs before listed counts nybbleCount leastOf fewest chosen halves byteOf bitBytes rasterOf firstBlack holds formFor allPixels packetFor packed pack
+unfolding readReply checkReply count drawReply packReply inLimits isBox isCode all elem same numberAndPlace told answers _>>=_ need answerAt bytes number held twos valueOf allHeld fieldBytes readFields toScaled wholePixels sameScaled flag fits measures bytesOf nybbles hex zerosF zerosOf large encode digits zeros shift second decode written writings string repeats rows sum sent joined picture bitsOf bits packets codes numberOf runAt repeatAt itemOf afterRun afterRepeat afterItem finish turn walk reading bitsRead noneRead items atLeast formOf rasterAt packetAt specialAt numericAt step checked orElse prepend isNil ending next onwardF onward preambleAt begin verdict check drawnBy pixelsOf find drawn drawFrom draw mixed above kept placed lastOf strung grow runs before listed counts nybbleCount leastOf fewest chosen halves byteOf bitBytes rasterOf firstBlack inForm holds firstForm allPixels packetFor packed pack
 reply (reads f xs) = readReply (decode f xs)
 reply (writes f n) = list (encode f n)
 reply (size f w h b) = it (nybbleCount (counts (rows w h b)) f)

@@ -1,13 +1,13 @@
 -- A raster draws one picture: the items of its bytes, their rows and their pixels are determined. Assumes nothing.
-use Prim.Native.Nat.{ℕ, zero, suc, _+_, _*_, _≤_, _<_}
-use mathlib.Core.Path.{_≡_, refl, sym, ap, _∙_}
-use mathlib.Core.List.{List, [], _++_}
+use Prim.Native.Nat.{ℕ, suc, _*_, _≤_, _<_}
+use mathlib.Core.Path.{_≡_, sym, ap, _∙_}
+use mathlib.Core.List.{List}
 use mathlib.Core.Bool.{Bool}
 use native.Mathlib.Nat.{mul-le-mul-right}
 use native.Mathlib.Omega.{arith}
 use lib.ListN.{length, take, replicate}
 use lib.Seq.{take-at}
-use Rattle.format.specs.Rasters.{Item, writings, string, picture, RunRaster, bits, BitRaster, colour, Draws, blank, inBits, inRuns, spare}
+use Rattle.format.specs.Rasters.{Item, writings, string, picture, RunRaster, BitRaster, colour, Draws, blank, inBits, inRuns, spare}
 use Rattle.format.proofs.Tests.{split}
 use Rattle.format.proofs.ItemLaws.{spare-ends, one-items}
 
@@ -35,12 +35,12 @@ bits-one w h bytes d e x y =
 
 -- Whatever the bytes draw, they draw one picture.
 pub one-picture : (f : ℕ) (black : Bool) (w h : ℕ) (bytes d e : List ℕ) → Draws f black w h bytes d → Draws f black w h bytes e → d ≡ e
-one-picture f black w h bytes d e (blank p q r) (blank p′ q′ r′) = r ∙ sym r′
-one-picture f black w h bytes d e (blank p q r) (inBits p′ q′ y) = absurd (omega arith)
-one-picture f black w h bytes d e (blank p q r) (inRuns p′ q′ y) = absurd (omega arith)
-one-picture f black w h bytes d e (inBits p q x) (blank p′ q′ r′) = absurd (omega arith)
+one-picture f black w h bytes d e (blank p g q r) (blank p′ g′ q′ r′) = r ∙ sym r′
+one-picture f black w h bytes d e (blank p g q r) (inBits p′ q′ y) = absurd (omega arith)
+one-picture f black w h bytes d e (blank p g q r) (inRuns p′ q′ y) = absurd (omega arith)
+one-picture f black w h bytes d e (inBits p q x) (blank p′ g′ q′ r′) = absurd (omega arith)
 one-picture f black w h bytes d e (inBits p q x) (inBits p′ q′ y) = bits-one w h bytes d e x y
 one-picture f black w h bytes d e (inBits p q x) (inRuns p′ q′ y) = absurd (omega arith)
-one-picture f black w h bytes d e (inRuns p q x) (blank p′ q′ r′) = absurd (omega arith)
+one-picture f black w h bytes d e (inRuns p q x) (blank p′ g′ q′ r′) = absurd (omega arith)
 one-picture f black w h bytes d e (inRuns p q x) (inBits p′ q′ y) = absurd (omega arith)
 one-picture f black w h bytes d e (inRuns p q x) (inRuns p′ q′ y) = runs-one f w h (colour black) bytes d e p q x y

@@ -4,9 +4,9 @@ use Prim.Native.Nat.{ℕ}
 use mathlib.Core.Path.{refl}
 use mathlib.Core.List.{List, [], _∷_, _++_}
 use lib.IntN.{ℤ, pos, negsuc}
-use lib.ListN.{take, replicate}
+use lib.ListN.{take, drop, replicate}
 use Rattle.format.specs.Measures.{scaled, Measures}
-use Rattle.format.proofs.Questions.{Question, checks, draws, packs, Reply, it, list, refusal, reply, Given, preamble, font, plain, short, letter, letterMeasures, letterPacket}
+use Rattle.format.proofs.Questions.{Question, checks, draws, packs, Reply, it, list, character, refusal, reply, Given, preamble, font, plain, short, letter, letterMeasures, letterPacket}
 
 -- A long packet with f = 14: its length, code, w and h in four bytes each, all else zero.
 abbrev long : List ℕ → List ℕ → List ℕ → List ℕ → List ℕ → List ℕ
@@ -23,6 +23,12 @@ moving dx dy =
 abbrev coded : ℤ → Measures
 coded code =
     record { code = code; w = pos 20; h = pos 29; tfm = pos 640796; dx = scaled (pos 1638400); dy = scaled (pos 0); hoff = negsuc 1; voff = pos 28 }
+
+-- The letter's packet in the long form, with dx of 1638401 and dy of −1.
+abbrev longLetter : List ℕ → List ℕ
+longLetter raster =
+    0x8F ∷ (four 0 0 0 46 ++ (four 0 0 0 4 ++ (four 0 9 0xC7 0x1C ++ (four 0 0x19 0 1 ++ (four 255 255 255 255
+    ++ (four 0 0 0 20 ++ (four 0 0 0 29 ++ (four 255 255 255 254 ++ (four 0 0 0 28 ++ raster)))))))))
 
 abbrev pub rows : List (Question × Reply)
 rows =
@@ -78,7 +84,11 @@ rows =
     -- dx of 2³¹ with a dy that only the long form holds; dx of 65,536 whole pixels
     ∷ (packs (moving (pos 2147483648) (pos 1)) letter 0, refusal 20 0) ∷ (packs (moving (pos 4294967296) (pos 0)) letter 0, refusal 20 0)
     ∷ (packs letterMeasures letter 28, refusal 17 0)
+    -- in order: w = h = 0; an escapement that is no whole number of pixels, in the long form; a length of 256 + 8 in the short form
     ∷ (packs (plain (pos 0) (pos 0)) [] 11, list (short 0xE0 0 0 []))
+    ∷ (packs (moving (pos 1638401) (negsuc 0)) letter 55, list (longLetter (drop 11 letterPacket)))
+    ∷ (draws (font (longLetter (drop 11 letterPacket))) 4 580, character (pos 4 ∷ pos 20 ∷ pos 29 ∷ pos 640796 ∷ pos 1638401 ∷ negsuc 0 ∷ negsuc 1 ∷ pos 28 ∷ []) letter)
+    ∷ (checks (font (0xE1 ∷ 8 ∷ 4 ∷ 0 ∷ 0 ∷ 0 ∷ 0 ∷ 64 ∷ 32 ∷ 0 ∷ 0 ∷ replicate 256 0xAA)), it 1)
     ∷ []
 
 -- The definitions give each.

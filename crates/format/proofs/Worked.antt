@@ -37,7 +37,8 @@ worked =
     ∷ (draws (font letterPacket) 4 65536, character (pos 4 ∷ pos 20 ∷ pos 29 ∷ pos 640796 ∷ pos 1638400 ∷ pos 0 ∷ negsuc 1 ∷ pos 28 ∷ []) letter)
     -- one black pixel: flag D8, raster 10
     ∷ (packs (plain (pos 1) (pos 1)) (1 ∷ []) 65536, list (short 0xD8 1 1 (0x10 ∷ [])))
-    -- rows 10 and 10: flag E0, raster A0; a packet with flag D8 and raster F1 10 draws the same
+    -- rows 10 and 10: runs need 3 nybbles, 2 bytes, and bits 1, so flag E0, raster A0; a packet with flag D8 and raster F1 10 draws the same
+    ∷ (size 13 2 2 (1 ∷ 0 ∷ 1 ∷ 0 ∷ []), it 3)
     ∷ (packs (plain (pos 2) (pos 2)) (1 ∷ 0 ∷ 1 ∷ 0 ∷ []) 65536, list (short 0xE0 2 2 (0xA0 ∷ [])))
     ∷ (draws (font (short 0xE0 2 2 (0xA0 ∷ []))) 4 65536, two (1 ∷ 0 ∷ 1 ∷ 0 ∷ []))
     ∷ (draws (font (short 0xD8 2 2 (0xF1 ∷ 0x10 ∷ []))) 4 65536, two (1 ∷ 0 ∷ 1 ∷ 0 ∷ []))

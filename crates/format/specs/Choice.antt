@@ -1,16 +1,15 @@
 -- What packing chooses (01, What packing chooses): the raster with its f and black bit, and the form.
 -- Assumes nothing: these are definitions.
-use Prim.Native.Nat.{ℕ, zero, suc, _+_, _*_, _/_, _≤_, _<_}
+use Prim.Native.Nat.{ℕ, zero, suc, _+_, _*_, _/_}
 use mathlib.Core.List.{List, [], _∷_}
 use mathlib.Core.Bool.{Bool, false, cond, _&&_}
 use lib.Dec.{eqb, leb, ltb}
 use lib.IntN.{natAbs}
 use lib.ListN.{length, drop, getD}
 use Rattle.format.specs.Refusals.{noForm, Result, ok, fault}
-use Rattle.format.specs.Numbers.{allHeld}
 use Rattle.format.specs.Measures.{wholePixels, sameScaled, Measures}
-use Rattle.format.specs.Pieces.{Form, short, extended, long, Escapement, kinds, fixed, lengthTop, Packet, values, dxOf, dyOf}
-use Rattle.format.specs.Rasters.{Item, writings}
+use Rattle.format.specs.Pieces.{Form, short, extended, long, Escapement, Packet, fits, measures}
+use Rattle.format.specs.Rasters.{Item, writings, bytesOfBits}
 
 -- ---- f
 
@@ -23,13 +22,7 @@ unfoldable pub leastOf : (ℕ → ℕ) → ℕ → ℕ
 leastOf g zero = 0
 leastOf g (suc k) = let b = leastOf g k in cond (leb (g (suc k)) (g b)) (suc k) b
 
--- What `leastOf` is to be: no place has less, and no larger one as little.
-pub record Least (g : ℕ → ℕ) (k b : ℕ) : Type 0 where
-  pub inside : b ≤ k
-  pub least : (i : ℕ) → i ≤ k → g b ≤ g i
-  pub largest : (i : ℕ) → b < i → i ≤ k → g b < g i
-
--- Of f = 0 to 13 the one with fewest nybbles.
+-- Of f = 0 to 13 the one with fewest nybbles; of equal ones, the largest.
 unfoldable pub fewest : List Item → ℕ
 fewest is = leastOf (nybbleCount is) 13
 
@@ -37,7 +30,7 @@ fewest is = leastOf (nybbleCount is) 13
 unfoldable pub chosen : ℕ → ℕ → List Item → ℕ
 chosen w h is =
     cond (eqb w 0) 14
-    (cond (ltb ((w * h + 7) / 8) ((nybbleCount is (fewest is) + 1) / 2)) 14 (fewest is))
+    (cond (ltb (bytesOfBits (w * h)) ((nybbleCount is (fewest is) + 1) / 2)) 14 (fewest is))
 
 -- ---- the raster
 
@@ -58,8 +51,9 @@ unfoldable pub bitBytes : ℕ → List ℕ → List ℕ
 bitBytes zero xs = []
 bitBytes (suc n) xs = byteOf 0 8 xs ∷ bitBytes n (drop 8 xs)
 
+-- The raster bytes for f, of a bitmap b with the count list is.
 unfoldable pub rasterOf : ℕ → List Item → List ℕ → List ℕ
-rasterOf f is b = cond (eqb f 14) (bitBytes ((length b + 7) / 8) b) (halves (writings f is))
+rasterOf f is b = cond (eqb f 14) (bitBytes (bytesOfBits (length b)) b) (halves (writings f is))
 
 -- The first run's colour; for f = 14 the black bit is 0.
 unfoldable pub firstBlack : ℕ → List ℕ → Bool
@@ -67,16 +61,22 @@ firstBlack f b = cond (eqb f 14) false (eqb (getD b 0 0) 1)
 
 -- ---- the form
 
--- The packet with these measures in the form k.
-abbrev pub packetIn : ℕ → Bool → Measures → (k : Form) → Escapement k → List ℕ → Packet
-packetIn f black m k e raster =
+-- The escapement as the form k would say it.
+abbrev pub escapementIn : (k : Form) → Measures → Escapement k
+escapementIn short m = wholePixels (m .dx)
+escapementIn extended m = wholePixels (m .dx)
+escapementIn long m = (m .dx, m .dy)
+
+-- The packet with these measures and this raster in the form k.
+unfoldable pub inForm : ℕ → Bool → Measures → List ℕ → Form → Packet
+inForm f black m raster k =
     record {
       f = f;
       black = black;
       form = k;
       code = natAbs (m .code);
       tfm = m .tfm;
-      escapement = e;
+      escapement = escapementIn k m;
       w = natAbs (m .w);
       h = natAbs (m .h);
       hoff = m .hoff;
@@ -84,20 +84,12 @@ packetIn f black m k e raster =
       raster = raster;
     }
 
--- The escapement as the form k would say it.
-abbrev pub escapementIn : (k : Form) → Measures → Escapement k
-escapementIn short m = wholePixels (m .dx)
-escapementIn extended m = wholePixels (m .dx)
-escapementIn long m = (m .dx, m .dy)
+-- The packet says that escapement, and its form holds every field and the length.
+unfoldable pub holds : Measures → Packet → Bool
+holds m p = (sameScaled (measures p .dx) (m .dx) && sameScaled (measures p .dy) (m .dy)) && fits p
 
--- The form k says that escapement, and holds every field and the length of a packet with n raster bytes.
-unfoldable pub holds : Form → Measures → ℕ → Bool
-holds k m n =
-    let e = escapementIn k m in
-    (sameScaled (dxOf k e) (m .dx) && sameScaled (dyOf k e) (m .dy))
-    && (ltb (fixed k + n) (lengthTop k) && allHeld (kinds k) (values k e (packetIn 0 false m k e []) (fixed k + n)))
-
--- The first of short, extended, long that does; 20 if none does.
-unfoldable pub formFor : Measures → ℕ → Result Form
-formFor m n =
-    cond (holds short m n) (ok short) (cond (holds extended m n) (ok extended) (cond (holds long m n) (ok long) (fault noForm)))
+-- The first of short, extended, long whose packet does; 20 if none does.
+unfoldable pub firstForm : Measures → (Form → Packet) → Result Packet
+firstForm m p =
+    cond (holds m (p short)) (ok (p short))
+    (cond (holds m (p extended)) (ok (p extended)) (cond (holds m (p long)) (ok (p long)) (fault noForm)))

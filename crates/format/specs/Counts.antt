@@ -2,27 +2,16 @@
 -- Assumes nothing: these are definitions.
 use Prim.Native.Nat.{ℕ, zero, suc, _+_}
 use mathlib.Core.List.{List, [], _∷_, _++_}
-use mathlib.Core.Bool.{Bool, true, false, cond, not, _&&_, _||_}
+use mathlib.Core.Bool.{Bool, cond, not, _&&_, _||_}
 use lib.Dec.{eqb}
+use Rattle.format.specs.Lists.{all, same}
 use Rattle.format.specs.Rasters.{Item, run, fourteen, fifteen}
 
 -- ---- rows kept
 
--- Every pixel of the row is c.
-unfoldable pub all : ℕ → List ℕ → Bool
-all c [] = true
-all c (x ∷ xs) = eqb x c && all c xs
-
 -- Neither all black nor all white.
 unfoldable pub mixed : List ℕ → Bool
 mixed r = not (all 0 r || all 1 r)
-
--- The two rows are equal.
-unfoldable pub same : List ℕ → List ℕ → Bool
-same [] [] = true
-same [] (y ∷ ys) = false
-same (x ∷ xs) [] = false
-same (x ∷ xs) (y ∷ ys) = eqb x y && same xs ys
 
 -- A row kept, and how many rows under it are removed and counted as its repeats.
 pub data Kept : Type 0 where
@@ -33,6 +22,7 @@ unfoldable pub above : List ℕ → List Kept → List Kept
 above r [] = row r 0 ∷ []
 above r (row s n ∷ ks) = cond (mixed r && same r s) (row r (n + 1) ∷ ks) (row r 0 ∷ row s n ∷ ks)
 
+-- The rows kept of all rows.
 unfoldable pub kept : List (List ℕ) → List Kept
 kept [] = []
 kept (r ∷ rs) = above r (kept rs)
@@ -80,6 +70,7 @@ before zero is = is
 before (suc zero) is = fifteen ∷ is
 before (suc (suc n)) is = fourteen (suc (suc n)) ∷ is
 
+-- The items of runs.
 unfoldable pub listed : List Run → List Item
 listed [] = []
 listed (stretch x k n ∷ rs) = before n (run k ∷ listed rs)

@@ -3,10 +3,11 @@
 use Prim.Native.Nat.{ℕ, _%_, _≤_, _<_}
 use mathlib.Core.Path.{_≡_}
 use mathlib.Core.List.{List, [], _∷_, _++_}
-use mathlib.Core.Bool.{Bool, false, _||_}
-use lib.Dec.{eqb}
+use mathlib.Core.Bool.{false}
 use lib.ListN.{length, replicate}
 use Rattle.format.specs.Limits.{most}
+use Rattle.format.specs.Lists.{elem}
+use Rattle.format.specs.Numbers.{Bytes}
 use Rattle.format.specs.Pieces.{Preamble, preambleBytes, PreambleOk, Packet, Piece, special, numeric, noop, packet, bytesOf, PieceOk}
 use Rattle.format.specs.Rasters.{Draws}
 
@@ -15,6 +16,7 @@ unfoldable pub flat : List Piece → List ℕ
 flat [] = []
 flat (p ∷ ps) = bytesOf p ++ flat ps
 
+-- Each piece is one that 01 allows.
 abbrev pub AllOk : List Piece → Type 0
 AllOk [] = Unit {0}
 AllOk (p ∷ ps) = PieceOk p × AllOk ps
@@ -32,13 +34,10 @@ abbrev pub AllFilled : List Packet → Type 0
 AllFilled [] = Unit {0}
 AllFilled (p ∷ ps) = ((drawn : List ℕ) × Draws (p .f) (p .black) (p .w) (p .h) (p .raster) drawn) × AllFilled ps
 
+-- Their codes.
 unfoldable pub codes : List Packet → List ℕ
 codes [] = []
 codes (p ∷ ps) = p .code ∷ codes ps
-
-unfoldable pub elem : ℕ → List ℕ → Bool
-elem c [] = false
-elem c (d ∷ ds) = eqb c d || elem c ds
 
 -- None stands twice.
 abbrev pub Distinct : List ℕ → Type 0
@@ -55,7 +54,10 @@ pub record Parts : Type 0 where
 unfoldable pub join : Parts → List ℕ
 join x = preambleBytes (x .preamble) ++ (flat (x .pieces) ++ 245 ∷ replicate (x .pad) 246)
 
+-- The bytes s, at most 65,536 and a multiple of four, are those of parts that 01 allows: each raster filled, no code twice, at least
+-- one packet (the letter's third demand).
 pub record Cut (s : List ℕ) (x : Parts) : Type 0 where
+  pub bytes : Bytes s
   pub whole : s ≡ join x
   pub small : length s ≤ most
   pub four : length s % 4 ≡ 0

@@ -5,7 +5,7 @@ use mathlib.Core.List.{List, [], _∷_}
 use mathlib.Core.Bool.{cond}
 use lib.Dec.{eqb, leb}
 use lib.ListN.{length, take}
-use Rattle.format.specs.Refusals.{noSuchCode, noRoom, Answer, gives, refused, Result, ok, fault, _>>=_, need, answerAt}
+use Rattle.format.specs.Refusals.{noSuchCode, noRoom, Answer, gives, refused, answers, lent, Result, ok, fault, _>>=_, need, answerAt}
 use Rattle.format.specs.Measures.{Measures}
 use Rattle.format.specs.Pieces.{Packet, measures}
 use Rattle.format.specs.Rasters.{Item, string, picture, bits, colour}
@@ -20,6 +20,7 @@ drawnBy p (ok is) =
     cond (eqb (p .f) 14) (take (p .w * p .h) (bits (p .raster)))
     (picture (p .w) (colour (p .black)) (length (string (colour (p .black)) is) / p .w) is)
 
+-- The pixels of a packet.
 unfoldable pub pixelsOf : Packet → List ℕ
 pixelsOf p = drawnBy p (items (p .f) (p .w) (p .h) (p .raster))
 
@@ -34,10 +35,18 @@ drawn room p = do
   _ ← need (leb (p .w * p .h) room) noRoom
   ok (measures p, pixelsOf p)
 
+-- The measures and pixels that a font's parts say of a code.
 unfoldable pub drawFrom : ℕ → ℕ → Answer Parts → Answer (Measures × List ℕ)
 drawFrom code room (refused r place) = refused r place
 drawFrom code room (gives x) = answerAt 0 (find code (packets (x .pieces)) >>= drawn room)
 
--- The answer to a font, a code and a lent buffer of `room` bytes.
+-- The measures and pixels for a font, a code and a lent buffer of `room` bytes.
 unfoldable pub draw : List ℕ → ℕ → ℕ → Answer (Measures × List ℕ)
 draw s code room = drawFrom code room (verdict s)
+
+-- The call answers with the measures, and fills the first w × h bytes with the pixels.
+unfoldable pub drawAnswer : List ℕ → ℕ → List ℕ → Answer Measures
+drawAnswer s code buffer = answers (λ t. t .0) (draw s code (length buffer))
+
+unfoldable pub drawBuffer : List ℕ → ℕ → List ℕ → List ℕ
+drawBuffer s code buffer = lent (λ t. t .1) (draw s code (length buffer)) buffer

@@ -1,4 +1,5 @@
 pub mod Limits
+pub mod Lists
 pub mod Refusals
 pub mod Numbers
 pub mod Measures

@@ -17,11 +17,12 @@ pub data Scaled : Type 0 where
 unfoldable pub toScaled : Pixels → Scaled
 toScaled (pixels n) = scaled (pos (n * 65536))
 
--- The whole pixels in an escapement. It is converted from them only if `toScaled` gives it back.
+-- The whole pixels to try for an escapement: they are its own only if `toScaled` gives it back.
 unfoldable pub wholePixels : Scaled → Pixels
 wholePixels (scaled (pos n)) = pixels (n / 65536)
 wholePixels (scaled (negsuc n)) = pixels 0
 
+-- The two are equal.
 unfoldable pub sameScaled : Scaled → Scaled → Bool
 sameScaled (scaled (pos a)) (scaled (pos b)) = eqb a b
 sameScaled (scaled (pos a)) (scaled (negsuc b)) = false

@@ -30,6 +30,7 @@ pub data Kind : Type 0 where
   unsigned : ℕ → Kind
   signed : ℕ → Kind
 
+-- Its bytes.
 abbrev pub width : Kind → ℕ
 width (unsigned k) = k
 width (signed k) = k
@@ -58,10 +59,12 @@ abbrev pub Values : List Kind → Type 0
 Values [] = Unit {0}
 Values (k ∷ ks) = ℤ × Values ks
 
+-- Each field holds its value.
 unfoldable pub allHeld : (ks : List Kind) → Values ks → Bool
 allHeld [] v = true
 allHeld (k ∷ ks) v = held k (v .0) && allHeld ks (v .1)
 
+-- Their bytes.
 abbrev pub size : List Kind → ℕ
 size [] = 0
 size (k ∷ ks) = width k + size ks

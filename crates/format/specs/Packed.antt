@@ -1,6 +1,6 @@
 -- Packed numbers (01, Rasters): the nybbles of bytes, a number's nybbles for each f, and how a number is read.
 -- Assumes nothing: these are definitions.
-use Prim.Native.Nat.{ℕ, zero, suc, _+_, _-_, _*_, _/_, _%_, _<_}
+use Prim.Native.Nat.{ℕ, zero, suc, _+_, _-_, _*_, _/_, _%_}
 use mathlib.Core.List.{List, [], _∷_, _++_}
 use mathlib.Core.Bool.{cond}
 use lib.Dec.{leb, ltb}
@@ -10,11 +10,6 @@ use lib.ListN.{replicate}
 unfoldable pub nybbles : List ℕ → List ℕ
 nybbles [] = []
 nybbles (b ∷ bs) = b / 16 ∷ b % 16 ∷ nybbles bs
-
--- Each is a nybble.
-abbrev pub Nybbles : List ℕ → Type 0
-Nybbles [] = Unit {0}
-Nybbles (x ∷ xs) = (x < 16) × Nybbles xs
 
 -- M = 208 − 15 × f, the most that two nybbles reach.
 abbrev pub limit : ℕ → ℕ
@@ -43,7 +38,7 @@ zerosOf k = zerosF k k
 unfoldable pub large : ℕ → List ℕ
 large k = replicate (zerosOf k) 0 ++ hex (suc (zerosOf k)) k
 
--- The nybbles of n, at least 1: n itself up to f; a and b, which reach M; or the digits of n − M + 15 behind their zeros.
+-- The nybbles of a number n, at least 1: n itself up to f; two nybbles a and b up to M; above it z zeros, and n − M + 15 in z + 1 digits.
 unfoldable pub encode : ℕ → ℕ → List ℕ
 encode f n =
     let big : List ℕ = large (n - limit f + 15) in

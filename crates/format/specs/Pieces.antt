@@ -3,8 +3,8 @@
 use Prim.Native.Nat.{ℕ, _+_, _*_, _/_, _%_, _≤_, _<_}
 use mathlib.Core.Path.{_≡_}
 use mathlib.Core.List.{List, [], _∷_, _++_}
-use mathlib.Core.Bool.{Bool, true, false, cond}
-use lib.Dec.{eqb}
+use mathlib.Core.Bool.{Bool, true, false, cond, _&&_}
+use lib.Dec.{eqb, ltb}
 use lib.IntN.{ℤ, pos}
 use lib.ListN.{length}
 use Rattle.format.specs.Limits.{inLimits}
@@ -13,6 +13,7 @@ use Rattle.format.specs.Measures.{Pixels, pixels, Scaled, scaled, toScal
 
 -- ---- preamble
 
+-- A comment and four numbers.
 pub record Preamble : Type 0 where
   pub comment : List ℕ
   pub ds : ℤ
@@ -24,6 +25,7 @@ pub record Preamble : Type 0 where
 abbrev pub preambleKinds : List Kind
 preambleKinds = signed 4 ∷ signed 4 ∷ signed 4 ∷ signed 4 ∷ []
 
+-- Their values.
 abbrev pub preambleValues : Preamble → Values preambleKinds
 preambleValues a = (a .ds, (a .cs, (a .hppp, (a .vppp, tt))))
 
@@ -31,12 +33,14 @@ preambleValues a = (a .ds, (a .cs, (a .hppp, (a .vppp, tt))))
 unfoldable pub preambleBytes : Preamble → List ℕ
 preambleBytes a = 247 ∷ 89 ∷ length (a .comment) ∷ (a .comment ++ fieldBytes preambleKinds (preambleValues a))
 
+-- Its comment's length is a byte, and its fields hold their values.
 pub record PreambleOk (a : Preamble) : Type 0 where
   pub comment : length (a .comment) < 256
   pub fields : allHeld preambleKinds (preambleValues a) ≡ true
 
 -- ---- the three forms
 
+-- flag mod 8 picks the form.
 pub data Form : Type 0 where
   short : Form
   extended : Form
@@ -83,6 +87,7 @@ lengthTop long = 2147483648
 
 -- ---- packets
 
+-- What a packet says: f, the black bit, the form, the fixed fields, and the raster bytes.
 pub record Packet : Type 0 where
   pub f : ℕ
   pub black : Bool
@@ -109,22 +114,27 @@ values extended (pixels dm) p n =
 values long (scaled dx, scaled dy) p n =
     (pos (lengthField long n), (pos (p .code), (p .tfm, (dx, (dy, (pos (p .w), (pos (p .h), (p .hoff, (p .voff, tt)))))))))
 
+-- The values of its own fields.
 abbrev pub fields : (p : Packet) → Values (kinds (p .form))
 fields p = values (p .form) (p .escapement) p (packetLength p)
 
--- The bit worth 8 says that the first run is black.
+-- The bit worth 8 says that the first run is black; it has no meaning when f is 14.
 abbrev pub blackBit : Bool → ℕ
 blackBit true = 8
 blackBit false = 0
 
--- f = flag div 16
+-- f is flag div 16, then the bit worth 8, then flag mod 8.
 unfoldable pub flag : Packet → ℕ
 flag p = 16 * p .f + blackBit (p .black) + formBits (p .form) (packetLength p)
 
+-- Its form holds the length and every field.
+unfoldable pub fits : Packet → Bool
+fits p = ltb (packetLength p) (lengthTop (p .form)) && allHeld (kinds (p .form)) (fields p)
+
+-- f is from 0 to 14, the form holds all, and w, h and the code are within 01's limits.
 pub record PacketOk (p : Packet) : Type 0 where
   pub f : p .f ≤ 14
-  pub length : packetLength p < lengthTop (p .form)
-  pub fields : allHeld (kinds (p .form)) (fields p) ≡ true
+  pub fits : fits p ≡ true
   pub limits : inLimits (p .w) (p .h) ≡ true
   pub code : p .code < 256
 
@@ -162,23 +172,27 @@ pub data Piece : Type 0 where
   numeric : List ℕ → Piece
   -- 246: nothing
   noop : Piece
+  -- a byte of 0 to 239 is a flag and begins a packet
   packet : Packet → Piece
 
 -- A command's length in k bytes; four-byte numbers are signed.
 abbrev pub lengthKind : ℕ → Kind
 lengthKind k = cond (eqb k 4) (signed k) (unsigned k)
 
+-- A piece's bytes.
 unfoldable pub bytesOf : Piece → List ℕ
 bytesOf (special k xs) = (239 + k) ∷ (bytes k (length xs) ++ xs)
 bytesOf (numeric xs) = 244 ∷ xs
 bytesOf noop = 246 ∷ []
 bytesOf (packet p) = flag p ∷ (fieldBytes (kinds (p .form)) (fields p) ++ p .raster)
 
+-- A length n in 1 to 4 bytes that hold it.
 pub record SpecialOk (k n : ℕ) : Type 0 where
   pub least : 1 ≤ k
   pub most : k ≤ 4
   pub held : held (lengthKind k) (pos n) ≡ true
 
+-- A piece that 01 allows.
 abbrev pub PieceOk : Piece → Type 0
 PieceOk (special k xs) = SpecialOk k (length xs)
 PieceOk (numeric xs) = length xs ≡ 4

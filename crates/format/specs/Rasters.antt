@@ -16,6 +16,7 @@ pub data Item : Type 0 where
   fourteen : ℕ → Item
   fifteen : Item
 
+-- The nybbles of an item, and of items, for f.
 unfoldable pub written : ℕ → Item → List ℕ
 written f (run n) = encode f n
 written f (fourteen n) = 14 ∷ encode f n
@@ -25,7 +26,7 @@ unfoldable pub writings : ℕ → List Item → List ℕ
 writings f [] = []
 writings f (i ∷ is) = written f i ++ writings f is
 
--- Packed numbers are at least 1.
+-- Packed numbers are at least 1: that of an item, and those of items.
 abbrev pub Number : Item → Type 0
 Number (run n) = 0 < n
 Number (fourteen n) = 0 < n
@@ -73,15 +74,17 @@ unfoldable pub rows : ℕ → ℕ → List ℕ → List (List ℕ)
 rows w zero s = []
 rows w (suc k) s = take w s ∷ rows w k (drop w s)
 
+-- The sum of numbers.
 unfoldable pub sum : List ℕ → ℕ
 sum [] = 0
 sum (n ∷ ns) = n + sum ns
 
--- The rows sent, where row r has the repeats `of r`: a full row is sent once, and once more for each repeat.
+-- The rows sent, where row r has the repeats `repeatsOf r`: a full row is sent once, and once more for each repeat.
 unfoldable pub sent : (ℕ → List ℕ) → List (List ℕ) → List (List ℕ)
-sent of [] = []
-sent of (row ∷ more) = replicate (suc (sum (of 0))) row ++ sent (λ r. of (suc r)) more
+sent repeatsOf [] = []
+sent repeatsOf (row ∷ more) = replicate (suc (sum (repeatsOf 0))) row ++ sent (λ r. repeatsOf (suc r)) more
 
+-- Rows joined without gaps.
 unfoldable pub joined : List (List ℕ) → List ℕ
 joined [] = []
 joined (row ∷ more) = row ++ joined more
@@ -90,13 +93,13 @@ joined (row ∷ more) = row ++ joined more
 unfoldable pub picture : ℕ → ℕ → ℕ → List Item → List ℕ
 picture w black k is = joined (sent (repeats w 0 is) (rows w k (string black is)))
 
--- The items fill w × h pixels to the last one: their string s is k whole rows; none of them has two repeats; each repeat
--- belongs to one of them; and h rows are sent.
-pub record Grid (w h k : ℕ) (of : ℕ → List ℕ) (s : List ℕ) : Type 0 where
+-- The width times height pixels are filled to the last one: the string s is k whole rows of w; no row has two repeats; each repeat
+-- belongs to one of the k rows; and h rows are sent.
+pub record Grid (w h k : ℕ) (repeatsOf : ℕ → List ℕ) (s : List ℕ) : Type 0 where
   pub whole : length s ≡ k * w
-  pub once : (r : ℕ) → length (of r) ≤ 1
-  pub inside : (r : ℕ) → k ≤ r → of r ≡ []
-  pub high : length (sent of (rows w k s)) ≡ h
+  pub once : (r : ℕ) → length (repeatsOf r) ≤ 1
+  pub inside : (r : ℕ) → k ≤ r → repeatsOf r ≡ []
+  pub high : length (sent repeatsOf (rows w k s)) ≡ h
 
 -- With f from 0 to 13: the bytes are the items' nybbles and the spare one, and draw these pixels.
 pub record RunRaster (f w h black : ℕ) (bytes drawn : List ℕ) : Type 0 where
@@ -117,6 +120,10 @@ unfoldable pub bits : List ℕ → List ℕ
 bits [] = []
 bits (b ∷ bs) = bitsOf b ++ bits bs
 
+-- The bytes that n bits take.
+abbrev pub bytesOfBits : ℕ → ℕ
+bytesOfBits n = (n + 7) / 8
+
 -- With f = 14: the bits are the w × h pixels, rows joined without gaps, and the spare bits of the last byte, zero.
 pub record BitRaster (w h : ℕ) (bytes drawn : List ℕ) : Type 0 where
   pub size : length drawn ≡ w * h
@@ -126,12 +133,13 @@ pub record BitRaster (w h : ℕ) (bytes drawn : List ℕ) : Type 0 where
 
 -- ---- any raster
 
+-- A pixel's colour: 0 white, 1 black.
 abbrev pub colour : Bool → ℕ
 colour true = 1
 colour false = 0
 
 -- The bytes draw these pixels. With w = h = 0 there are no raster bytes in any case.
 pub data Draws (f : ℕ) (black : Bool) (w h : ℕ) (bytes drawn : List ℕ) : Type 0 where
-  blank : w ≡ 0 → bytes ≡ [] → drawn ≡ [] → Draws f black w h bytes drawn
+  blank : w ≡ 0 → h ≡ 0 → bytes ≡ [] → drawn ≡ [] → Draws f black w h bytes drawn
   inBits : 0 < w → f ≡ 14 → BitRaster w h bytes drawn → Draws f black w h bytes drawn
   inRuns : 0 < w → f ≤ 13 → RunRaster f w h (colour black) bytes drawn → Draws f black w h bytes drawn

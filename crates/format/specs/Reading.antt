@@ -1,5 +1,4 @@
--- A raster's faults, as its nybbles are taken in order (01, Numbers given back: rows 10 to 13): its items, or the first row that
--- it breaks. Assumes nothing: these are definitions.
+-- A raster's items, or its first refusal, as its nybbles are taken in order (01, Numbers given back: 10 to 13). Assumes nothing: these are definitions.
 use Prim.Native.Nat.{ℕ, zero, suc, _+_, _-_, _*_, _/_, _%_, _^_}
 use mathlib.Core.List.{List, [], _∷_}
 use mathlib.Core.Bool.{cond}
@@ -7,7 +6,7 @@ use lib.Dec.{eqb, leb, ltb}
 use lib.ListN.{length, getD}
 use Rattle.format.specs.Refusals.{rasterEnds, tooMany, secondRepeat, leftOver, Result, ok, fault, _>>=_}
 use Rattle.format.specs.Packed.{nybbles, Got, value, ends, mark, decode}
-use Rattle.format.specs.Rasters.{Item, run, fourteen, fifteen}
+use Rattle.format.specs.Rasters.{Item, run, fourteen, fifteen, bytesOfBits}
 
 -- ---- one item
 
@@ -17,6 +16,7 @@ numberOf (value n rest) = ok (n, rest)
 numberOf ends = fault rasterEnds
 numberOf mark = fault secondRepeat
 
+-- A run.
 unfoldable pub runAt : ℕ → List ℕ → Result (Item × List ℕ)
 runAt f xs = do
   (n, rest) ← numberOf (decode f xs)
@@ -37,43 +37,47 @@ itemOf f rep (x ∷ xs) = cond (ltb x 14) (runAt f (x ∷ xs)) (cond (ltb 0 rep)
 
 -- The column and the row that come next, and the repeat that the row has had: 0 for none.
 pub record State : Type 0 where
-  pub col : ℕ
+  pub column : ℕ
   pub row : ℕ
-  pub rep : ℕ
+  pub repeat : ℕ
 
+-- At first.
 abbrev pub start : State
-start = record { col = 0; row = 0; rep = 0 }
+start = record { column = 0; row = 0; repeat = 0 }
 
 -- The pixels left: the rest of the current row and the rows after it that its repeat does not fill.
-abbrev pub left : ℕ → ℕ → State → ℕ
-left w h s = (w - s .col) + (h - s .row - s .rep - 1) * w
+abbrev pub pixelsLeft : ℕ → ℕ → State → ℕ
+pixelsLeft w h s = (w - s .column) + (h - s .row - s .repeat - 1) * w
 
 -- The row is full: it and its repeats are behind.
 abbrev pub rowEnd : ℕ → State → State
-rowEnd w s = record { col = s .col - w; row = s .row + s .rep + 1; rep = 0 }
+rowEnd w s = record { column = s .column - w; row = s .row + s .repeat + 1; repeat = 0 }
 
+-- So q times.
 abbrev pub rowEnds : ℕ → ℕ → State → State
 rowEnds w zero s = s
 rowEnds w (suc q) s = rowEnds w q (rowEnd w s)
 
-abbrev pub over : ℕ → State → State
-over n s = record { col = s .col + n; row = s .row; rep = s .rep }
+-- n pixels further, and with a repeat of n for the row.
+abbrev pub advanced : ℕ → State → State
+advanced n s = record { column = s .column + n; row = s .row; repeat = s .repeat }
 
-abbrev pub marked : ℕ → State → State
-marked n s = record { col = s .col; row = s .row; rep = n }
+abbrev pub withRepeat : ℕ → State → State
+withRepeat n s = record { column = s .column; row = s .row; repeat = n }
 
--- A run of n, no longer than the pixels left, fills (col + n) / w rows.
-unfoldable pub ran : ℕ → ℕ → ℕ → State → Result State
-ran w h n s = cond (leb n (left w h s)) (ok (rowEnds w ((s .col + n) / w) (over n s))) (fault tooMany)
+-- A run of n, no longer than the pixels left, fills (column + n) / w rows.
+unfoldable pub afterRun : ℕ → ℕ → ℕ → State → Result State
+afterRun w h n s = cond (leb n (pixelsLeft w h s)) (ok (rowEnds w ((s .column + n) / w) (advanced n s))) (fault tooMany)
 
 -- A repeat of n, no larger than the rows after the current one.
-unfoldable pub again : ℕ → ℕ → State → Result State
-again h n s = cond (leb n (h - s .row - 1)) (ok (marked n s)) (fault tooMany)
+unfoldable pub afterRepeat : ℕ → ℕ → State → Result State
+afterRepeat h n s = cond (leb n (h - s .row - 1)) (ok (withRepeat n s)) (fault tooMany)
 
-unfoldable pub moved : ℕ → ℕ → Item → State → Result State
-moved w h (run n) s = ran w h n s
-moved w h (fourteen n) s = again h n s
-moved w h fifteen s = again h 1 s
+-- After an item.
+unfoldable pub afterItem : ℕ → ℕ → Item → State → Result State
+afterItem w h (run n) s = afterRun w h n s
+afterItem w h (fourteen n) s = afterRepeat h n s
+afterItem w h fifteen s = afterRepeat h 1 s
 
 -- ---- all items
 
@@ -87,8 +91,8 @@ finish (suc x ∷ xs) = fault leftOver
 -- One turn: the next item, the state after it, the nybbles left.
 unfoldable pub turn : ℕ → ℕ → ℕ → State → List ℕ → Result (Item × State × List ℕ)
 turn f w h s xs = do
-  (i, rest) ← itemOf f (s .rep) xs
-  s′ ← moved w h i s
+  (i, rest) ← itemOf f (s .repeat) xs
+  s′ ← afterItem w h i s
   ok (i, s′, rest)
 
 -- The items up to h full rows. g bounds their number: the number of nybbles is enough.
@@ -104,12 +108,12 @@ walk (suc g) f w h s xs =
 unfoldable pub reading : ℕ → ℕ → ℕ → List ℕ → Result (List Item)
 reading f w h bytes = walk (length (nybbles bytes)) f w h start (nybbles bytes)
 
--- With f = 14, n bits in need bytes: too few, too many, or spare bits of the last byte that are not zero. There are no items.
+-- With f = 14, n bits in k bytes: too few, too many, or spare bits of the last byte that are not zero. There are no items.
 unfoldable pub bitsRead : ℕ → ℕ → List ℕ → Result (List Item)
-bitsRead n need bytes =
-    cond (ltb (length bytes) need) (fault rasterEnds)
-    (cond (ltb need (length bytes)) (fault leftOver)
-    (cond (eqb (getD bytes (need - 1) 0 % 2 ^ (8 * need - n)) 0) (ok []) (fault leftOver)))
+bitsRead n k bytes =
+    cond (ltb (length bytes) k) (fault rasterEnds)
+    (cond (ltb k (length bytes)) (fault leftOver)
+    (cond (eqb (getD bytes (k - 1) 0 % 2 ^ (8 * k - n)) 0) (ok []) (fault leftOver)))
 
 -- With w = h = 0: no raster bytes in any case.
 unfoldable pub noneRead : List ℕ → Result (List Item)
@@ -120,4 +124,4 @@ noneRead (b ∷ bytes) = fault leftOver
 unfoldable pub items : ℕ → ℕ → ℕ → List ℕ → Result (List Item)
 items f zero h bytes = noneRead bytes
 items f (suc w) h bytes =
-    cond (eqb f 14) (bitsRead (suc w * h) ((suc w * h + 7) / 8) bytes) (reading f (suc w) h bytes)
+    cond (eqb f 14) (bitsRead (suc w * h) (bytesOfBits (suc w * h)) bytes) (reading f (suc w) h bytes)

@@ -36,7 +36,7 @@ pub data Refusal : Type 0 where
   badEnding : Refusal
   -- 245 reached with no packet before it
   noPacket : Refusal
-  -- accepted font lacks the code asked for
+  -- accepted font lacks the code asked for (any code above 255 too)
   noSuchCode : Refusal
   -- lent buffer too short for the result
   noRoom : Refusal
@@ -52,59 +52,65 @@ pub data Answer (A : Type 0) : Type 0 where
   gives : A → Answer A
   refused : Refusal → ℕ → Answer A
 
--- The number and the place of each row; `at` is the start of the piece, for the last two of a font the 245.
-unfoldable pub row : Refusal → ℕ → ℕ × ℕ
-row tooLong at = (1, 0)
-row noPreamble at = (2, 0)
-row wrongId at = (3, 0)
-row fileEnds at = (4, at)
-row noPiece at = (5, at)
-row badLength at = (6, at)
-row badBox at = (7, at)
-row badCode at = (8, at)
-row codeTwice at = (9, at)
-row rasterEnds at = (10, at)
-row tooMany at = (11, at)
-row secondRepeat at = (12, at)
-row leftOver at = (13, at)
-row badEnding at = (14, at)
-row noPacket at = (15, at)
-row noSuchCode at = (16, 0)
-row noRoom at = (17, 0)
-row badBitmapBox at = (18, 0)
-row badBitmap at = (19, 0)
-row noForm at = (20, 0)
+-- The number and the place of each row; `at` is the start of the piece at fault, for 14 and 15 the 245.
+unfoldable pub numberAndPlace : Refusal → ℕ → ℕ × ℕ
+numberAndPlace tooLong at = (1, 0)
+numberAndPlace noPreamble at = (2, 0)
+numberAndPlace wrongId at = (3, 0)
+numberAndPlace fileEnds at = (4, at)
+numberAndPlace noPiece at = (5, at)
+numberAndPlace badLength at = (6, at)
+numberAndPlace badBox at = (7, at)
+numberAndPlace badCode at = (8, at)
+numberAndPlace codeTwice at = (9, at)
+numberAndPlace rasterEnds at = (10, at)
+numberAndPlace tooMany at = (11, at)
+numberAndPlace secondRepeat at = (12, at)
+numberAndPlace leftOver at = (13, at)
+numberAndPlace badEnding at = (14, at)
+numberAndPlace noPacket at = (15, at)
+numberAndPlace noSuchCode at = (16, 0)
+numberAndPlace noRoom at = (17, 0)
+numberAndPlace badBitmapBox at = (18, 0)
+numberAndPlace badBitmap at = (19, 0)
+numberAndPlace noForm at = (20, 0)
 
--- An answer in 01's numbers.
+-- An answer in 01's numbers: what it says, or a refusal's number and place.
 pub data Told (A : Type 0) : Type 0 where
   says : A → Told A
   refuses : ℕ → ℕ → Told A
 
 unfoldable pub told : {A : Type 0} → Answer A → Told A
 told (gives a) = says a
-told (refused x at) = refuses (row x at .0) (row x at .1)
+told (refused x at) = refuses (numberAndPlace x at .0) (numberAndPlace x at .1)
 
--- A lent buffer afterwards: what the call gives fills its first bytes, bytes beyond stay, and no refusal writes to it.
+-- What a call answers of all that it gives.
+unfoldable pub answers : {A B : Type 0} → (A → B) → Answer A → Answer B
+answers f (gives a) = gives (f a)
+answers f (refused x at) = refused x at
+
+-- A lent buffer afterwards: bytes that the call gives fill its first bytes, bytes beyond stay, and no refusal writes to it.
 unfoldable pub lent : {A : Type 0} → (A → List ℕ) → Answer A → List ℕ → List ℕ
 lent bytes (gives a) buffer = bytes a ++ drop (length (bytes a)) buffer
 lent bytes (refused x at) buffer = buffer
 
--- What a part of a font is found to be, before its place is known: a value, or the row that it breaks.
+-- An answer whose place is not yet known: a value, or the refusal.
 pub data Result (A : Type 0) : Type 0 where
   ok : A → Result A
   fault : Refusal → Result A
 
+-- One after the other: the first refusal is the one given.
 infixl 20 _>>=_
 unfoldable pub _>>=_ : {A B : Type 0} → Result A → (A → Result B) → Result B
 _>>=_ (ok a) f = f a
 _>>=_ (fault x) f = fault x
 
--- A row of the table is broken unless the test holds.
+-- A refusal unless the test holds.
 unfoldable pub need : Bool → Refusal → Result (Unit {0})
 need true x = ok tt
 need false x = fault x
 
--- The place put to it.
+-- The answer of what stands at a place.
 unfoldable pub answerAt : {A : Type 0} → ℕ → Result A → Answer A
 answerAt place (ok a) = gives a
 answerAt place (fault x) = refused x place
