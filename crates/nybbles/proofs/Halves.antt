@@ -2,11 +2,12 @@
 -- Assumes nothing.
 use Prim.Native.Nat.{ℕ, zero, suc, _*_, _/_, _%_, _<_}
 use mathlib.Core.Path.{_≡_, refl, ap, _∙_}
-use mathlib.Core.List.{List, [], _∷_}
+use mathlib.Core.List.{List, [], _∷_, _++_}
 use native.Mathlib.Nat.{mul-suc}
 use native.Mathlib.Numerals.{add-two}
 use native.Mathlib.Omega.{arith}
-use lib.ListN.{getD}
+use lib.ListN.{length, getD}
+use lib.Seq.{getD-append-seam}
 use Rattle.format.specs.Packed.{nybbles}
 use Rattle.nybbles.specs.Nybble.{NybbleAt}
 
@@ -39,3 +40,7 @@ high-at s i r h l e = record { is = omega (arith, high s i h); small = omega ari
 -- The answer at an odd place.
 pub low-at : (s : List ℕ) (i r : ℕ) → i % 2 ≡ 1 → r ≡ getD s (i / 2) 0 % 16 → NybbleAt s i r
 low-at s i r h e = record { is = omega (arith, low s i h); small = omega arith }
+
+-- At the very end stands the low half of the last byte.
+pub last-half : (s : List ℕ) (b : ℕ) → getD (nybbles (s ++ (b ∷ []))) (suc (2 * length s)) 0 ≡ b % 16
+last-half s b = odd (s ++ (b ∷ [])) (length s) ∙ ap (λ (x : ℕ). x % 16) (getD-append-seam s b [] 0)
