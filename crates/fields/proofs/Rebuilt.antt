@@ -12,7 +12,8 @@ use mir.Syntax.{w64}
 use mir.Val.{SFits, toZ, ofZ}
 use mir.Facts.{toZ-ofZ, toZ-pos}
 use borrow.Author.Tests.{lt-ltb, le-ltb}
-use Rattle.format.specs.Numbers.{number, valueOf, signed}
+use Rattle.format.specs.Numbers.{signed}
+use Rattle.format.specs.Decoding.{number, valueOf}
 use Rattle.fields.specs.Field.{NumberAt}
 
 -- Equal widths have equally many values.

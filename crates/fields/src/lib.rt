@@ -2,7 +2,8 @@
 ghost use Prim.Native.Nat.{_+_, _≤_, _<_, _^_};
 ghost use mathlib.Core.Path.{_≡_};
 ghost use lib.ListN.{length, drop};
-ghost use Rattle.format.specs.Numbers.{number, signed, valueOf};
+ghost use Rattle.format.specs.Numbers.{signed};
+ghost use Rattle.format.specs.Decoding.{number, valueOf};
 ghost use Rattle.fields.specs.Field.{NumberAt};
 
 fn wide(x: u8) -> u64

@@ -5,7 +5,8 @@ use mathlib.Core.List.{List, [], _∷_, _++_, append-assoc}
 use native.Mathlib.Omega.{arith}
 use lib.ListN.{length, take, drop, length-replicate}
 use lib.Seq.{take-append-seam, drop-append-seam, drop-at}
-use Rattle.format.specs.Numbers.{fieldBytes, readFields}
+use Rattle.format.specs.Numbers.{fieldBytes}
+use Rattle.format.specs.Decoding.{readFields}
 use Rattle.format.specs.Pieces.{Preamble, preambleKinds, preambleValues, preambleBytes, PreambleOk, Piece, bytesOf}
 use Rattle.format.specs.Cut.{flat, AllOk, Parts, join, Cut}
 use Rattle.format.specs.Refusals.{ok}

@@ -10,7 +10,8 @@ use lib.IntN.{ℤ, pos, negsuc}
 use lib.ListN.{length, take, drop, length-append, length-drop}
 use lib.Seq.{drop-at, take-add}
 use borrow.Author.Tests.{ltb-true, ltb-false, leb-true, lt-ltb, le-ltb, le-leb}
-use Rattle.format.specs.Numbers.{Bytes, bytes, number, Kind, unsigned, signed, width, held, twos, valueOf, Values, allHeld, size, fieldBytes, readFields}
+use Rattle.format.specs.Numbers.{Bytes, bytes, Kind, unsigned, signed, width, held, twos, Values, allHeld, size, fieldBytes}
+use Rattle.format.specs.Decoding.{number, valueOf, readFields}
 use Rattle.format.proofs.Tests.{and-true, true-and}
 
 pow-pos : (k : ℕ) → 0 < 256 ^ k

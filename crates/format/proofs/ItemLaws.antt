@@ -9,7 +9,8 @@ use lib.Dec.{ltb, eqb}
 use lib.ListN.{length}
 use borrow.Author.Tests.{le-ltb, lt-ltb, lt-leb, eq-eqb, ne-eqb}
 use Rattle.format.specs.Refusals.{Result, ok, fault, _>>=_, Refusal, rasterEnds, secondRepeat}
-use Rattle.format.specs.Packed.{Got, value, ends, mark, decode, encode, shift, zeros}
+use Rattle.format.specs.Packed.{encode}
+use Rattle.format.specs.Decoding.{Got, value, ends, mark, decode, shift, zeros}
 use Rattle.format.specs.Rasters.{Item, run, fourteen, fifteen, repeat, Number, Numbers, written, writings, spare}
 use Rattle.format.specs.Reading.{numberOf, runAt, repeatAt, itemOf}
 use Rattle.format.proofs.Tests.{split}

@@ -5,7 +5,8 @@ use mathlib.Core.List.{List, [], _∷_, _++_}
 use native.Mathlib.Nat.{add-zero, mul-assoc, pow-succ'}
 use native.Mathlib.Omega.{arith}
 use lib.ListN.{replicate}
-use Rattle.format.specs.Packed.{limit, value, ends, digits, zeros, shift, decode}
+use Rattle.format.specs.Packed.{limit}
+use Rattle.format.specs.Decoding.{value, ends, digits, zeros, shift, decode}
 
 -- No nybbles: the number ends before it begins.
 pub nothing-read : (f : ℕ) → decode f [] ≡ ends

@@ -10,7 +10,8 @@ use lib.Dec.{leb}
 use lib.ListN.{length, replicate, length-append, length-replicate}
 use borrow.Author.Tests.{le-ltb, lt-ltb, le-leb, lt-leb}
 use Rattle.format.specs.Numbers.{Bytes}
-use Rattle.format.specs.Packed.{nybbles, limit, hex, zerosF, zerosOf, large, encode, Got, value, ends, mark, digits, zeros, shift, second, decode}
+use Rattle.format.specs.Packed.{nybbles, limit, hex, zerosF, zerosOf, large, encode}
+use Rattle.format.specs.Decoding.{Got, value, ends, mark, digits, zeros, shift, second, decode}
 use Rattle.format.proofs.Tests.{split}
 
 -- ---- nybbles of bytes

@@ -12,7 +12,8 @@ use lib.Seq.{length-take-le, take-append-seam, drop-append-seam, take-at, drop-a
 use borrow.Author.Tests.{ltb-true, ltb-false, leb-true, eqb-true, eqb-false, lt-ltb, le-ltb, le-leb, eq-eqb, ne-eqb}
 use Rattle.format.specs.Limits.{inLimits, isBox, isCode}
 use Rattle.format.specs.Refusals.{Refusal, fileEnds, noPiece, badLength, badBox, badCode, Result, ok, fault, _>>=_, need}
-use Rattle.format.specs.Numbers.{Bytes, bytes, number, unsigned, signed, held, twos, valueOf, Values, allHeld, size, fieldBytes, readFields}
+use Rattle.format.specs.Numbers.{Bytes, bytes, unsigned, signed, held, twos, Values, allHeld, size, fieldBytes}
+use Rattle.format.specs.Decoding.{number, valueOf, readFields}
 use Rattle.format.specs.Measures.{pixels, scaled}
 use Rattle.format.specs.Pieces.{Form, short, extended, long, Escapement, kinds, fixed, formBits, lengthTop, Packet, packetLength, values, fields, blackBit, flag, fits, PacketOk, Piece, special, numeric, noop, packet, lengthKind, bytesOf, SpecialOk, PieceOk}
 use Rattle.format.specs.Verdict.{Front, piece, last, atLeast, formOf, Header, header, packetOf, rasterAt, packetAt, specialAt, numericAt, step}

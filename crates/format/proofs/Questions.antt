@@ -7,10 +7,11 @@ use lib.ListN.{length, replicate}
 use Rattle.format.specs.Limits.{inLimits, isBox, isCode}
 use Rattle.format.specs.Lists.{all, elem, same}
 use Rattle.format.specs.Refusals.{Told, says, refuses, numberAndPlace, told, answers, _>>=_, need, answerAt}
-use Rattle.format.specs.Numbers.{bytes, number, held, twos, valueOf, allHeld, fieldBytes, readFields}
+use Rattle.format.specs.Numbers.{bytes, held, twos, allHeld, fieldBytes}
+use Rattle.format.specs.Decoding.{number, valueOf, readFields, Got, value, ends, mark, digits, zeros, shift, second, decode}
 use Rattle.format.specs.Measures.{Scaled, scaled, Measures, toScaled, wholePixels, sameScaled}
 use Rattle.format.specs.Pieces.{flag, fits, measures, bytesOf}
-use Rattle.format.specs.Packed.{Got, value, ends, mark, nybbles, hex, zerosF, zerosOf, large, encode, digits, zeros, shift, second, decode}
+use Rattle.format.specs.Packed.{nybbles, hex, zerosF, zerosOf, large, encode}
 use Rattle.format.specs.Rasters.{written, writings, string, repeats, rows, sum, sent, joined, picture, bitsOf, bits}
 use Rattle.format.specs.Cut.{packets, codes}
 use Rattle.format.specs.Reading.{numberOf, runAt, repeatAt, itemOf, afterRun, afterRepeat, afterItem, finish, turn, walk, reading, bitsRead, noneRead, items}

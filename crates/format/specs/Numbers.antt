@@ -1,11 +1,11 @@
--- Many-byte numbers (01, Pieces of a file): the first byte is most significant; four-byte ones are signed, two's complement.
+-- Many-byte numbers (01, Pieces of a file): the first byte is most significant; four-byte ones are signed, two's complement. No
+-- reader is mentioned.
 -- Assumes nothing: these are definitions.
 use Prim.Native.Nat.{ℕ, zero, suc, _+_, _-_, _*_, _/_, _%_, _^_, _<_}
 use mathlib.Core.List.{List, [], _∷_, _++_}
-use mathlib.Core.Bool.{Bool, true, false, cond, _&&_}
+use mathlib.Core.Bool.{Bool, true, false, _&&_}
 use lib.Dec.{leb, ltb}
 use lib.IntN.{ℤ, pos, negsuc}
-use lib.ListN.{drop}
 
 -- Each is a byte.
 abbrev pub Bytes : List ℕ → Type 0
@@ -16,12 +16,6 @@ Bytes (b ∷ s) = (b < 256) × Bytes s
 unfoldable pub bytes : ℕ → ℕ → List ℕ
 bytes zero n = []
 bytes (suc k) n = n / 256 ^ k ∷ bytes k (n % 256 ^ k)
-
--- The number that the first k bytes are.
-unfoldable pub number : ℕ → List ℕ → ℕ
-number zero s = 0
-number (suc k) [] = 0
-number (suc k) (b ∷ s) = b * 256 ^ k + number k s
 
 -- ---- fields
 
@@ -47,11 +41,6 @@ unfoldable pub twos : ℕ → ℤ → ℕ
 twos k (pos n) = n
 twos k (negsuc n) = 256 ^ k - suc n
 
--- The value of a field whose bytes are the number n.
-unfoldable pub valueOf : Kind → ℕ → ℤ
-valueOf (unsigned k) n = pos n
-valueOf (signed k) n = cond (ltb (2 * n) (256 ^ k)) (pos n) (negsuc (256 ^ k - suc n))
-
 -- ---- fields in a row
 
 -- A value for each field.
@@ -73,8 +62,3 @@ size (k ∷ ks) = width k + size ks
 unfoldable pub fieldBytes : (ks : List Kind) → Values ks → List ℕ
 fieldBytes [] v = []
 fieldBytes (k ∷ ks) v = bytes (width k) (twos (width k) (v .0)) ++ fieldBytes ks (v .1)
-
--- The values that stand in the first bytes.
-unfoldable pub readFields : (ks : List Kind) → List ℕ → Values ks
-readFields [] s = tt
-readFields (k ∷ ks) s = (valueOf k (number (width k) s), readFields ks (drop (width k) s))

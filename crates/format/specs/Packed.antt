@@ -1,4 +1,4 @@
--- Packed numbers (01, Rasters): the nybbles of bytes, a number's nybbles for each f, and how a number is read.
+-- Packed numbers (01, Rasters): the nybbles of bytes, and a number's nybbles for each f. No reader is mentioned.
 -- Assumes nothing: these are definitions.
 use Prim.Native.Nat.{ℕ, zero, suc, _+_, _-_, _*_, _/_, _%_}
 use mathlib.Core.List.{List, [], _∷_, _++_}
@@ -18,8 +18,6 @@ limit f = 208 - 15 * f
 -- The same for f = 0 to 13 as a table.
 unfoldable pub limitTable : List ℕ
 limitTable = 208 ∷ 193 ∷ 178 ∷ 163 ∷ 148 ∷ 133 ∷ 118 ∷ 103 ∷ 88 ∷ 73 ∷ 58 ∷ 43 ∷ 28 ∷ 13 ∷ []
-
--- ---- written
 
 -- The last n hexadecimal digits of k, the first most significant.
 unfoldable pub hex : ℕ → ℕ → List ℕ
@@ -44,40 +42,3 @@ encode f n =
     let big : List ℕ = large (n - limit f + 15) in
     cond (leb n f) (n ∷ [])
     (cond (leb n (limit f)) (((n - f - 1) / 16 + f + 1) ∷ (n - f - 1) % 16 ∷ []) big)
-
--- ---- read
-
--- A number and the nybbles after it; that the nybbles end inside it; a 14 or 15 where it must begin.
-pub data Got : Type 0 where
-  value : ℕ → List ℕ → Got
-  ends : Got
-  mark : Got
-
--- n digits more, after those that came to k
-unfoldable pub digits : ℕ → ℕ → List ℕ → Got
-digits zero k xs = value k xs
-digits (suc n) k [] = ends
-digits (suc n) k (x ∷ xs) = digits n (k * 16 + x) xs
-
--- after z zeros: a zero more, or the first digit and z more
-unfoldable pub zeros : ℕ → List ℕ → Got
-zeros z [] = ends
-zeros z (zero ∷ xs) = zeros (suc z) xs
-zeros z (suc x ∷ xs) = digits z (suc x) xs
-
--- that number − 15 + M
-unfoldable pub shift : ℕ → Got → Got
-shift m (value k xs) = value (k - 15 + m) xs
-shift m ends = ends
-shift m mark = mark
-
--- after a nybble a from f + 1 to 13: (a − f − 1) × 16 + b + f + 1
-unfoldable pub second : ℕ → ℕ → List ℕ → Got
-second f a [] = ends
-second f a (b ∷ xs) = value ((a - f - 1) * 16 + b + f + 1) xs
-
--- The packed number at the front.
-unfoldable pub decode : ℕ → List ℕ → Got
-decode f [] = ends
-decode f (zero ∷ xs) = shift (limit f) (zeros 1 xs)
-decode f (suc a ∷ xs) = cond (leb (suc a) f) (value (suc a) xs) (cond (leb (suc a) 13) (second f (suc a) xs) mark)

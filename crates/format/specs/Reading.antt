@@ -5,7 +5,8 @@ use mathlib.Core.Bool.{cond}
 use lib.Dec.{eqb, leb, ltb}
 use lib.ListN.{length, getD}
 use Rattle.format.specs.Refusals.{rasterEnds, tooMany, secondRepeat, leftOver, Result, ok, fault, _>>=_}
-use Rattle.format.specs.Packed.{nybbles, Got, value, ends, mark, decode}
+use Rattle.format.specs.Packed.{nybbles}
+use Rattle.format.specs.Decoding.{Got, value, ends, mark, decode}
 use Rattle.format.specs.Rasters.{Item, run, fourteen, fifteen, bytesOfBits}
 
 -- ---- one item

@@ -9,7 +9,8 @@ use lib.ListN.{length, take, drop}
 use Rattle.format.specs.Limits.{most, isBox, isCode}
 use Rattle.format.specs.Lists.{all, elem}
 use Rattle.format.specs.Refusals.{tooLong, noPreamble, wrongId, fileEnds, noPiece, badLength, badBox, badCode, codeTwice, badEnding, noPacket, Answer, gives, refused, answers, Result, ok, fault, _>>=_, need}
-use Rattle.format.specs.Numbers.{number, valueOf, Values, size, readFields}
+use Rattle.format.specs.Numbers.{Values, size}
+use Rattle.format.specs.Decoding.{number, valueOf, readFields}
 use Rattle.format.specs.Measures.{pixels, scaled}
 use Rattle.format.specs.Pieces.{Preamble, preambleKinds, Form, short, extended, long, Escapement, kinds, fixed, Packet, Piece, special, numeric, noop, packet, lengthKind, bytesOf}
 use Rattle.format.specs.Rasters.{Item}

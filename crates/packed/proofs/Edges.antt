@@ -6,7 +6,8 @@ use mathlib.Core.List.{List, [], _∷_, _++_}
 use native.Mathlib.Nat.{pow-le-pow-right}
 use native.Mathlib.Omega.{arith}
 use lib.ListN.{length, replicate, length-append, length-replicate}
-use Rattle.format.specs.Packed.{nybbles, limit, decode}
+use Rattle.format.specs.Packed.{nybbles, limit}
+use Rattle.format.specs.Decoding.{decode}
 use Rattle.format.proofs.PackedEdges.{zeros-alone, many-digits}
 use Rattle.packed.specs.declared.Read.the-variants.{Number, Ends}
 use Rattle.packed.specs.Answer.{from, toRead, readAt}

@@ -8,7 +8,8 @@ use native.Mathlib.Omega.{arith}
 use lib.ListN.{length, getD, length-drop, drop-of-length-le}
 use lib.Seq.{drop-cons}
 use borrow.Author.Tests.{le-leb, lt-leb}
-use Rattle.format.specs.Packed.{nybbles, limit, value, ends, digits, zeros, shift, second, decode}
+use Rattle.format.specs.Packed.{nybbles, limit}
+use Rattle.format.specs.Decoding.{value, ends, digits, zeros, shift, second, decode}
 use Rattle.format.proofs.PackedLaws.{length-nybbles, zeros-first, decode-first}
 use Rattle.packed.specs.declared.Read.{Read}
 use Rattle.packed.specs.declared.Read.the-variants.{Number, Ends, Mark}

@@ -3,7 +3,8 @@ use Prim.Native.Nat.{ℕ, _+_, _-_, _*_, _≤_, _<_, min}
 use mathlib.Core.Path.{_≡_}
 use mathlib.Core.List.{List}
 use lib.ListN.{length, drop, getD}
-use Rattle.format.specs.Packed.{nybbles, Got, value, ends, mark, zeros, decode}
+use Rattle.format.specs.Packed.{nybbles}
+use Rattle.format.specs.Decoding.{Got, value, ends, mark, zeros, decode}
 use Rattle.packed.specs.declared.Read.{Read}
 use Rattle.packed.specs.declared.Read.the-variants.{Number, Ends, Mark}
 

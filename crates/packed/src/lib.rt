@@ -2,7 +2,8 @@
 ghost use Prim.Native.Nat.{_*_, _≤_, _<_};
 ghost use mathlib.Core.Path.{_≡_};
 ghost use lib.ListN.{length};
-ghost use Rattle.format.specs.Packed.{limit, digits, zeros, shift};
+ghost use Rattle.format.specs.Packed.{limit};
+ghost use Rattle.format.specs.Decoding.{digits, zeros, shift};
 ghost use Rattle.packed.specs.Answer.{from, toRead, readAt, Skipped};
 
 // What is read: a number, 65,537 for any above 65,536, and the place of the next nybble; that the nybbles end inside it; that a
