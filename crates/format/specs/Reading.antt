@@ -1,13 +1,14 @@
 -- A raster's items, or its first refusal, as its nybbles are taken in order (01, Numbers given back: 10 to 13). Assumes nothing: these are definitions.
-use Prim.Native.Nat.{ℕ, zero, suc, _+_, _-_, _*_, _/_, _%_, _^_}
+use Prim.Native.Nat.{ℕ, zero, suc, _+_, _-_, _*_, _/_}
 use mathlib.Core.List.{List, [], _∷_}
 use mathlib.Core.Bool.{cond}
 use lib.Dec.{eqb, leb, ltb}
-use lib.ListN.{length, getD}
-use Rattle.format.specs.Refusals.{rasterEnds, tooMany, secondRepeat, leftOver, Result, ok, fault, _>>=_}
+use lib.ListN.{length, drop}
+use Rattle.format.specs.Lists.{all}
+use Rattle.format.specs.Refusals.{rasterEnds, tooMany, secondRepeat, leftOver, Result, ok, fault, _>>=_, need}
 use Rattle.format.specs.Packed.{nybbles}
 use Rattle.format.specs.Decoding.{Got, value, ends, mark, decode}
-use Rattle.format.specs.Rasters.{Item, run, fourteen, fifteen, bytesOfBits}
+use Rattle.format.specs.Rasters.{Item, run, fourteen, fifteen, bits, bytesOfBits}
 
 -- ---- one item
 
@@ -109,12 +110,13 @@ walk (suc g) f w h s xs =
 unfoldable pub reading : ℕ → ℕ → ℕ → List ℕ → Result (List Item)
 reading f w h bytes = walk (length (nybbles bytes)) f w h start (nybbles bytes)
 
--- With f = 14, n bits in k bytes: too few, too many, or spare bits of the last byte that are not zero. There are no items.
+-- With f = 14, n bits in k bytes: too few bytes, too many, or spare bits of the last byte that are not zero. There are no items.
 unfoldable pub bitsRead : ℕ → ℕ → List ℕ → Result (List Item)
-bitsRead n k bytes =
-    cond (ltb (length bytes) k) (fault rasterEnds)
-    (cond (ltb k (length bytes)) (fault leftOver)
-    (cond (eqb (getD bytes (k - 1) 0 % 2 ^ (8 * k - n)) 0) (ok []) (fault leftOver)))
+bitsRead n k bytes = do
+  _ ← need (leb k (length bytes)) rasterEnds
+  _ ← need (leb (length bytes) k) leftOver
+  _ ← need (all 0 (drop n (bits bytes))) leftOver
+  ok []
 
 -- With w = h = 0: no raster bytes in any case.
 unfoldable pub noneRead : List ℕ → Result (List Item)
