@@ -1,4 +1,4 @@
-// Many-byte fields of a slice: unsigned of 1 to 4 bytes, signed of 1, 2 and 4, rebuilt from their bytes.
+// Many-byte fields of a slice, of 1 to 4 bytes: unsigned, and signed, which 01 has of 8, 16 and 32 bits, rebuilt from their bytes.
 ghost use Prim.Native.Nat.{_+_, _≤_, _<_, _^_};
 ghost use mathlib.Core.Path.{_≡_};
 ghost use lib.ListN.{length, drop};

@@ -1,9 +1,9 @@
 -- Numbers and fields, for every width at once: what is written is read back, and what is read was so written. Assumes nothing.
 use Prim.Native.Nat.{ℕ, zero, suc, _+_, _-_, _*_, _/_, _%_, _^_, _<_, _≤_}
-use mathlib.Core.Path.{_≡_, refl, ap, _∙_}
+use mathlib.Core.Path.{_≡_, refl, ap, _∙_, subst}
 use mathlib.Core.List.{List, [], _∷_, _++_, append-assoc}
 use mathlib.Core.Bool.{Bool, true, false, cond}
-use native.Mathlib.Nat.{one-le-pow, mod-lt, div-add-mod', div-eq-of-lt, mod-eq-of-lt, mul-add-div-right, mul-add-mod-self-right, mul-le-mul-right}
+use native.Mathlib.Nat.{div-lt-iff-lt-mul, pow-succ', one-le-pow, mod-lt, div-add-mod', div-eq-of-lt, mod-eq-of-lt, mul-add-div-right, mul-add-mod-self-right, mul-le-mul-right}
 use native.Mathlib.Omega.{arith}
 use lib.Dec.{ltb}
 use lib.IntN.{ℤ, pos, negsuc}
@@ -43,6 +43,14 @@ number-bound (suc k) (b ∷ s) h =
     let m = mul-le-mul-right {m = b} {n = 255} (256 ^ k) (omega arith) in
     let i = number-bound k s (h .1) in
     omega arith
+
+-- They are bytes.
+pub bytes-are : (k n : ℕ) → n < 256 ^ k → Bytes (bytes k n)
+unfolding bytes
+bytes-are zero n h = tt
+bytes-are (suc k) n h =
+    let e : n < 256 * 256 ^ k = subst (λ (m : ℕ). n < m) (pow-succ' 256 k) h in
+    (div-lt-iff-lt-mul (pow-pos k) .1 e, bytes-are k (n % 256 ^ k) (mod-lt n (pow-pos k)))
 
 -- The bytes that are read are the number's.
 pub bytes-number : (k : ℕ) (s : List ℕ) → Bytes s → k ≤ length s → bytes k (number k s) ≡ take k s

@@ -11,7 +11,7 @@ use borrow.Author.Tests.{le-ltb, lt-ltb, lt-leb, eq-eqb, ne-eqb}
 use Rattle.format.specs.Refusals.{Result, ok, fault, _>>=_, Refusal, rasterEnds, secondRepeat}
 use Rattle.format.specs.Packed.{encode}
 use Rattle.format.specs.Decoding.{Got, value, ends, mark, decode, shift, zeros}
-use Rattle.format.specs.Rasters.{Item, run, fourteen, fifteen, repeat, Number, Numbers, written, writings, spare}
+use Rattle.format.specs.Rasters.{Item, run, fourteen, fifteen, repeat, Number, AllNumbers, written, writings, spare}
 use Rattle.format.specs.Reading.{numberOf, runAt, repeatAt, itemOf}
 use Rattle.format.proofs.Tests.{split}
 use Rattle.format.proofs.PackedLaws.{Nybbles, decode-first, decode-encode, decode-written}
@@ -130,7 +130,7 @@ spare-ends f n = go (eqb (n % 2) 1)
     go false = refl
 
 -- From the nybbles of items and of what is no item the items are found again.
-pub one-items : (f : ℕ) (is js : List Item) (r t : List ℕ) → f ≤ 13 → Numbers is → Numbers js → itemOf f 0 r ≡ fault rasterEnds → itemOf f 0 t ≡ fault rasterEnds
+pub one-items : (f : ℕ) (is js : List Item) (r t : List ℕ) → f ≤ 13 → AllNumbers is → AllNumbers js → itemOf f 0 r ≡ fault rasterEnds → itemOf f 0 t ≡ fault rasterEnds
     → writings f is ++ r ≡ writings f js ++ t → (is ≡ js) × (r ≡ t)
 unfolding writings
 one-items f [] [] r t hf p q a b e = (refl, e)

@@ -8,6 +8,8 @@ pub mod PieceLaws
 pub mod CutLaws
 pub mod ItemLaws
 pub mod RasterLaws
+pub mod CutExample
+pub mod FindLaws
 pub mod CommandLaws
 pub mod Questions
 pub mod Worked

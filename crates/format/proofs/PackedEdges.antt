@@ -29,7 +29,7 @@ pub zeros-alone : (f z : ℕ) → decode f (0 ∷ (replicate z 0 ++ [])) ≡ end
 unfolding decode shift zeros
 zeros-alone f z = ap (shift (limit f)) (zeros-skipped z 1 [])
 
--- Any number of zeros, then 1 and as many zero digits: the number is the mathematical one, 16 ^ z − 15 + M, however many.
+-- z + 1 zeros, then 1 and as many zero digits: the number is the mathematical one, 16 ^ (z + 1) − 15 + M, whatever z.
 pub many-digits : (f z : ℕ) (rest : List ℕ) → decode f (replicate (suc z) 0 ++ (1 ∷ (replicate (suc z) 0 ++ rest))) ≡ value (16 ^ suc z - 15 + limit f) rest
 unfolding decode shift zeros
 many-digits f z rest =

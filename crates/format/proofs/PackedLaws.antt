@@ -230,3 +230,28 @@ digits-behind (suc g) k p q =
 
 pub zeros-are : (k : ℕ) → 0 < k → (16 ^ zerosOf k ≤ k) × (k < 16 ^ suc (zerosOf k))
 zeros-are k p = digits-behind k k p (omega arith)
+
+-- ---- what is written are nybbles
+
+nybbles-join : (xs ys : List ℕ) → Nybbles xs → Nybbles ys → Nybbles (xs ++ ys)
+nybbles-join [] ys h k = k
+nybbles-join (x ∷ xs) ys h k = (h .0, nybbles-join xs ys (h .1) k)
+
+nybbles-zero : (n : ℕ) → Nybbles (replicate n 0)
+nybbles-zero zero = tt
+nybbles-zero (suc n) = (omega arith, nybbles-zero n)
+
+nybbles-hex : (n k : ℕ) → Nybbles (hex n k)
+unfolding hex
+nybbles-hex zero k = tt
+nybbles-hex (suc n) k = nybbles-join (hex n (k / 16)) (k % 16 ∷ []) (nybbles-hex n (k / 16)) (omega arith, tt)
+
+-- A number's writing is nybbles, for every f.
+pub encode-nybbles : (f n : ℕ) → f ≤ 13 → Nybbles (encode f n)
+unfolding encode large
+encode-nybbles f n hf =
+    split n f (λ t. rw (le-leb n f t) (omega arith, tt))
+    (λ t. split n (limit f)
+    (λ u. rw (lt-leb n f t, le-leb n (limit f) u) (omega arith, (omega arith, tt)))
+    (λ u. let k = n - limit f + 15 in
+    rw (lt-leb n f t, lt-leb n (limit f) u) (nybbles-join (replicate (zerosOf k) 0) (hex (suc (zerosOf k)) k) (nybbles-zero (zerosOf k)) (nybbles-hex (suc (zerosOf k)) k))))

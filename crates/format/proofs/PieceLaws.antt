@@ -1,17 +1,18 @@
 -- Pieces: what is a piece is found at the front of the bytes, whatever follows; and a piece that is found is what stands there.
 -- The three forms meet in `header-values` and `rebuilt`; all else is said once for the three. Assumes nothing.
 use Prim.Native.Nat.{ℕ, _+_, _-_, _*_, _/_, _%_, _^_, _<_, _≤_}
-use mathlib.Core.Path.{_≡_, refl, ap, _∙_, subst}
+use mathlib.Core.Path.{_≡_, refl, sym, ap, _∙_, subst}
 use mathlib.Core.List.{List, [], _∷_, _++_, append-assoc}
 use mathlib.Core.Bool.{Bool, true, false, cond}
+use native.Mathlib.Nat.{mod-eq-of-lt, mul-add-mod-self-right}
 use native.Mathlib.Omega.{arith}
 use lib.Dec.{ltb, leb, eqb}
 use lib.IntN.{ℤ, pos, negsuc, natAbs}
 use lib.ListN.{length, take, drop, length-append, take-append-drop}
 use lib.Seq.{length-take-le, take-append-seam, drop-append-seam, take-at, drop-at}
 use borrow.Author.Tests.{ltb-true, ltb-false, leb-true, eqb-true, eqb-false, lt-ltb, le-ltb, le-leb, eq-eqb, ne-eqb}
-use Rattle.format.specs.Limits.{inLimits, isBox, isCode}
-use Rattle.format.specs.Refusals.{Refusal, fileEnds, noPiece, badLength, badBox, badCode, Result, ok, fault, _>>=_, need}
+use Rattle.format.specs.Limits.{inLimits, withinLimits, isCode}
+use Rattle.format.specs.Refusals.{Refusal, fileEnds, noPiece, badLength, outsideLimits, badCode, Result, ok, fault, _>>=_, need}
 use Rattle.format.specs.Numbers.{Bytes, bytes, unsigned, signed, held, twos, Values, allHeld, size, fieldBytes}
 use Rattle.format.specs.Decoding.{number, valueOf, readFields}
 use Rattle.format.specs.Measures.{pixels, scaled}
@@ -67,12 +68,12 @@ fits-fields p o = and-true (ltb (packetLength p) (lengthTop (p .form))) _ (o .fi
 
 raster-found : (p : Packet) (b : ℕ) (r : List ℕ) → PacketOk p → Flag b (p .f) (formBits (p .form) (packetLength p)) (p .black)
     → rasterAt b (headerIn (p .form) (p .escapement) p (packetLength p)) (length (p .raster)) (p .raster ++ r) ≡ ok (piece (packet p) r)
-unfolding rasterAt need _>>=_ isBox isCode
+unfolding rasterAt need _>>=_ withinLimits
 raster-found p b r o e =
     rw (
       le-leb (length (p .raster)) (length (p .raster ++ r)) (rw length-append (omega arith)),
       o .limits,
-      lt-ltb (p .code) 256 (o .code),
+      o .code,
       take-append-seam (p .raster) r,
       drop-append-seam (p .raster) r,
       e .f,
@@ -198,6 +199,29 @@ black-back b = go (eqb (b / 8 % 2) 1) refl
     go true e = let z = eqb-true (b / 8 % 2) 1 e in omega arith
     go false e = let z = eqb-false (b / 8 % 2) 1 e in omega arith
 
+-- The first two forms have a length in k bytes with its upper part in the flag, and dm in k bytes behind a code and tfm: both stand in
+-- their fields again.
+record Narrow (k n : ℕ) (v : Values (unsigned k ∷ unsigned 1 ∷ unsigned 3 ∷ unsigned k ∷ unsigned k ∷ unsigned k ∷ signed k ∷ signed k ∷ [])) : Type 0 where
+  length : pos (n % 256 ^ k) ≡ v .0
+  dm : pos (natAbs (v .1 .1 .1 .0)) ≡ v .1 .1 .1 .0
+  small : natAbs (v .0) < 256 ^ k
+
+narrow : (k n b : ℕ) (v : Values (unsigned k ∷ unsigned 1 ∷ unsigned 3 ∷ unsigned k ∷ unsigned k ∷ unsigned k ∷ signed k ∷ signed k ∷ []))
+    → allHeld (unsigned k ∷ unsigned 1 ∷ unsigned 3 ∷ unsigned k ∷ unsigned k ∷ unsigned k ∷ signed k ∷ signed k ∷ []) v ≡ true
+    → b * 256 ^ k + natAbs (v .0) ≡ n → Narrow k n v
+unfolding allHeld
+narrow k n b v hs e =
+    let h0 = and-true (held (unsigned k) (v .0)) _ hs in
+    let h1 = and-true (held (unsigned 1) (v .1 .0)) _ (h0 .1) in
+    let h2 = and-true (held (unsigned 3) (v .1 .1 .0)) _ (h1 .1) in
+    let h3 = and-true (held (unsigned k) (v .1 .1 .1 .0)) _ (h2 .1) in
+    let x = plain-held k (v .0) (h0 .0) in
+    record {
+      length = ap pos (ap (λ (m : ℕ). m % 256 ^ k) (sym e) ∙ mul-add-mod-self-right b (256 ^ k) (natAbs (v .0)) ∙ mod-eq-of-lt (x .1)) ∙ x .0;
+      dm = plain-held k (v .1 .1 .1 .0) (h3 .0) .0;
+      small = x .1;
+    }
+
 module _ (b : ℕ) (raster : List ℕ) where
   rebuilt : (k : Form) → Bits k (b % 8) → (v : Values (kinds k)) → allHeld (kinds k) v ≡ true
       → header k b v .length ≡ pos (fixed k + length raster)
@@ -207,44 +231,34 @@ module _ (b : ℕ) (raster : List ℕ) where
       → Rebuilt k b v (packetOf b (header k b v) raster)
   unfolding flag fits allHeld fieldBytes
   rebuilt short l v hs n c w h =
-      let x = plain-held 1 (v .0) (and-true (held (unsigned 1) (v .0)) _ hs .0) in
-      let h1 = and-true (held (unsigned 1) (v .0)) _ hs .1 in
-      let h2 = and-true (held (unsigned 1) (v .1 .0)) _ h1 .1 in
-      let h3 = and-true (held (unsigned 3) (v .1 .1 .0)) _ h2 .1 in
-      let dm = plain-held 1 (v .1 .1 .1 .0) (and-true (held (unsigned 1) (v .1 .1 .1 .0)) _ h3 .0) .0 in
       let y : b % 4 * 256 + natAbs (v .0) ≡ fixed short + length raster = ap natAbs n in
-      let t : fixed short + length raster < lengthTop short = omega arith in
-      let z : pos ((fixed short + length raster) % 256) ≡ v .0 = ap pos (omega arith) ∙ x .0 in
-      record { same = rw (z, c, dm, w, h); head = omega (arith, black-back b); fits = true-and (lt-ltb (fixed short + length raster) (lengthTop short) t) (rw (z, c, dm, w, h) hs) }
+      let x = narrow 1 (fixed short + length raster) (b % 4) v hs y in
+      let t = lt-ltb (fixed short + length raster) (lengthTop short) (omega (arith, x .small)) in
+      record { same = rw (x .length, c, x .dm, w, h); head = omega (arith, x .small, black-back b); fits = true-and t (rw (x .length, c, x .dm, w, h) hs) }
   rebuilt extended l v hs n c w h =
-      let x = plain-held 2 (v .0) (and-true (held (unsigned 2) (v .0)) _ hs .0) in
-      let h1 = and-true (held (unsigned 2) (v .0)) _ hs .1 in
-      let h2 = and-true (held (unsigned 1) (v .1 .0)) _ h1 .1 in
-      let h3 = and-true (held (unsigned 3) (v .1 .1 .0)) _ h2 .1 in
-      let dm = plain-held 2 (v .1 .1 .1 .0) (and-true (held (unsigned 2) (v .1 .1 .1 .0)) _ h3 .0) .0 in
       let y : b % 4 * 65536 + natAbs (v .0) ≡ fixed extended + length raster = ap natAbs n in
-      let t : fixed extended + length raster < lengthTop extended = omega arith in
-      let z : pos ((fixed extended + length raster) % 65536) ≡ v .0 = ap pos (omega arith) ∙ x .0 in
-      record { same = rw (z, c, dm, w, h); head = omega (arith, black-back b); fits = true-and (lt-ltb (fixed extended + length raster) (lengthTop extended) t) (rw (z, c, dm, w, h) hs) }
+      let x = narrow 2 (fixed extended + length raster) (b % 4) v hs y in
+      let t = lt-ltb (fixed extended + length raster) (lengthTop extended) (omega (arith, x .small)) in
+      record { same = rw (x .length, c, x .dm, w, h); head = omega (arith, x .small, black-back b); fits = true-and t (rw (x .length, c, x .dm, w, h) hs) }
   rebuilt long l v hs n c w h =
       let x = signed-held 4 (fixed long + length raster) (v .0) n (and-true (held (signed 4) (v .0)) _ hs .0) in
-      let t : fixed long + length raster < lengthTop long = omega arith in
-      record { same = rw (← n, c, w, h); head = omega (arith, black-back b); fits = true-and (lt-ltb (fixed long + length raster) (lengthTop long) t) (rw (← n, c, w, h) hs) }
+      let t = lt-ltb (fixed long + length raster) (lengthTop long) (omega arith) in
+      record { same = rw (← n, c, w, h); head = omega (arith, black-back b); fits = true-and t (rw (← n, c, w, h) hs) }
 
 at-least : (m : ℕ) (z : ℤ) → atLeast m z ≡ true → (z ≡ pos (natAbs z)) × (m ≤ natAbs z)
 unfolding atLeast
 at-least m (pos n) e = (refl, leb-true m n e)
 at-least m (negsuc n) e = absurd (let z : _≡_ {A = ℕ} 0 1 = cc in omega arith)
 
-box-true : (w h : ℤ) → isBox w h ≡ true → (pos (natAbs w) ≡ w) × (pos (natAbs h) ≡ h) × (inLimits (natAbs w) (natAbs h) ≡ true)
-unfolding isBox
+box-true : (w h : ℤ) → withinLimits w h ≡ true → (pos (natAbs w) ≡ w) × (pos (natAbs h) ≡ h) × (inLimits (natAbs w) (natAbs h) ≡ true)
+unfolding withinLimits
 box-true (pos w) (pos h) e = (refl, refl, e)
 box-true (pos w) (negsuc h) e = absurd (let z : _≡_ {A = ℕ} 0 1 = cc in omega arith)
 box-true (negsuc w) h e = absurd (let z : _≡_ {A = ℕ} 0 1 = cc in omega arith)
 
-code-true : (c : ℤ) → isCode c ≡ true → (pos (natAbs c) ≡ c) × (natAbs c < 256)
+code-true : (c : ℤ) → isCode c ≡ true → (pos (natAbs c) ≡ c) × (isCode (pos (natAbs c)) ≡ true)
 unfolding isCode
-code-true (pos c) e = (refl, ltb-true c 256 e)
+code-true (pos c) e = (refl, e)
 code-true (negsuc c) e = absurd (let z : _≡_ {A = ℕ} 0 1 = cc in omega arith)
 
 packet-whole : (b : ℕ) (k : Form) (s : List ℕ) (n : ℕ) (v : Values (kinds k)) (p : Packet) → Wrote (kinds k) s v → Rebuilt k b v p
@@ -271,7 +285,7 @@ packet-is b s k hb hk v wrote =
     need-is (b ∷ s) (leb (size (kinds k)) (length s)) fileEnds _ λ a.
     need-is (b ∷ s) (atLeast (fixed k) (x .length)) badLength _ λ e.
     need-is (b ∷ s) (leb n (length t)) fileEnds _ λ l.
-    need-is (b ∷ s) (isBox (x .w) (x .h)) badBox _ λ f.
+    need-is (b ∷ s) (withinLimits (x .w) (x .h)) outsideLimits _ λ f.
     need-is (b ∷ s) (isCode (x .code)) badCode _ λ g.
     let w = wrote (leb-true (size (kinds k)) (length s) a) in
     let u = at-least (fixed k) (x .length) e in

@@ -4,9 +4,9 @@ use mathlib.Core.Path.{_≡_}
 use mathlib.Core.List.{List, [], _∷_, _++_, map}
 use lib.IntN.{ℤ, pos, negsuc}
 use lib.ListN.{length, replicate}
-use Rattle.format.specs.Limits.{inLimits, isBox, isCode}
+use Rattle.format.specs.Limits.{inLimits, withinLimits, isCode}
 use Rattle.format.specs.Lists.{all, elem, same}
-use Rattle.format.specs.Refusals.{Told, says, refuses, numberAndPlace, told, answers, _>>=_, need, answerAt}
+use Rattle.format.specs.Refusals.{Told, says, refuses, numberAndPlace, told, lent, answers, _>>=_, need, answerAt}
 use Rattle.format.specs.Numbers.{bytes, held, twos, allHeld, fieldBytes}
 use Rattle.format.specs.Decoding.{number, valueOf, readFields, Got, value, ends, mark, digits, zeros, shift, second, decode}
 use Rattle.format.specs.Measures.{Scaled, scaled, Measures, toScaled, wholePixels, sameScaled}
@@ -16,10 +16,10 @@ use Rattle.format.specs.Rasters.{written, writings, string, repeats, row
 use Rattle.format.specs.Cut.{packets, codes}
 use Rattle.format.specs.Reading.{numberOf, runAt, repeatAt, itemOf, afterRun, afterRepeat, afterItem, finish, turn, walk, reading, bitsRead, noneRead, items}
 use Rattle.format.specs.Verdict.{atLeast, formOf, rasterAt, packetAt, specialAt, numericAt, step, checked, orElse, prepend, isNil, ending, next, onwardF, onward, preambleAt, begin, verdict, check}
-use Rattle.format.specs.Drawing.{drawnBy, pixelsOf, find, drawn, drawFrom, draw}
+use Rattle.format.specs.Drawing.{drawnBy, pixelsOf, find, drawn, drawFrom, draw, drawAnswer, drawBuffer}
 use Rattle.format.specs.Counts.{mixed, above, kept, placed, lastOf, strung, grow, runs, before, listed, counts}
 use Rattle.format.specs.Choice.{nybbleCount, leastOf, fewest, chosen, halves, byteOf, bitBytes, rasterOf, firstBlack, inForm, holds, firstForm}
-use Rattle.format.specs.Packing.{allPixels, packetFor, packed, pack}
+use Rattle.format.specs.Packing.{allPixels, packetFor, packed, pack, packAnswer, packBuffer}
 
 pub data Question : Type 0 where
   -- the packed number that nybbles are, for f
@@ -36,6 +36,11 @@ pub data Question : Type 0 where
   draws : List ℕ → ℕ → ℕ → Question
   -- the packet of a bitmap with its measures, with a buffer of so many bytes
   packs : Measures → List ℕ → ℕ → Question
+  -- what the two calls answer, and leave in a lent buffer
+  drawAnswers : List ℕ → ℕ → List ℕ → Question
+  drawLeaves : List ℕ → ℕ → List ℕ → Question
+  packAnswers : Measures → List ℕ → List ℕ → Question
+  packLeaves : Measures → List ℕ → List ℕ → Question
 
 pub data Reply : Type 0 where
   it : ℕ → Reply
@@ -70,7 +75,7 @@ packReply (refuses n place) = refusal n place
 
 -- The definitions' reply. All that they say computes where `reply` is unfolded.
 unfoldable pub reply : Question → Reply
-unfolding readReply checkReply count drawReply packReply inLimits isBox isCode all elem same numberAndPlace told answers _>>=_ need answerAt bytes number held twos valueOf allHeld fieldBytes readFields toScaled wholePixels sameScaled flag fits measures bytesOf nybbles hex zerosF zerosOf large encode digits zeros shift second decode written writings string repeats rows sum sent joined picture bitsOf bits packets codes numberOf runAt repeatAt itemOf afterRun afterRepeat afterItem finish turn walk reading bitsRead noneRead items atLeast formOf rasterAt packetAt specialAt numericAt step checked orElse prepend isNil ending next onwardF onward preambleAt begin verdict check drawnBy pixelsOf find drawn drawFrom draw mixed above kept placed lastOf strung grow runs before listed counts nybbleCount leastOf fewest chosen halves byteOf bitBytes rasterOf firstBlack inForm holds firstForm allPixels packetFor packed pack
+unfolding readReply checkReply count drawReply packReply inLimits withinLimits isCode all elem same numberAndPlace told answers _>>=_ need answerAt bytes number held twos valueOf allHeld fieldBytes readFields toScaled wholePixels sameScaled flag fits measures bytesOf nybbles hex zerosF zerosOf large encode digits zeros shift second decode written writings string repeats rows sum sent joined picture bitsOf bits packets codes numberOf runAt repeatAt itemOf afterRun afterRepeat afterItem finish turn walk reading bitsRead noneRead items atLeast formOf rasterAt packetAt specialAt numericAt step checked orElse prepend isNil ending next onwardF onward preambleAt begin verdict check drawnBy pixelsOf find drawn drawFrom draw mixed above kept placed lastOf strung grow runs before listed counts nybbleCount leastOf fewest chosen halves byteOf bitBytes rasterOf firstBlack inForm holds firstForm allPixels packetFor packed pack lent drawAnswer drawBuffer packAnswer packBuffer
 reply (reads f xs) = readReply (decode f xs)
 reply (writes f n) = list (encode f n)
 reply (size f w h b) = it (nybbleCount (counts (rows w h b)) f)
@@ -78,6 +83,10 @@ reply (chooses w h b) = it (chosen w h (counts (rows w h b)))
 reply (checks s) = checkReply (told (check s))
 reply (draws s code room) = drawReply (told (draw s code room))
 reply (packs m b room) = packReply (told (pack b m room))
+reply (drawAnswers s code buffer) = drawReply (told (answers (λ m. (m, [])) (drawAnswer s code buffer)))
+reply (drawLeaves s code buffer) = list (drawBuffer s code buffer)
+reply (packAnswers m b buffer) = checkReply (told (packAnswer b m buffer))
+reply (packLeaves m b buffer) = list (packBuffer b m buffer)
 
 -- The definitions give each of a list of replies.
 abbrev pub Given : List (Question × Reply) → Type 0

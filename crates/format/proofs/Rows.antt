@@ -1,4 +1,5 @@
--- An example for each row of 01's table of refusals, with its place, and for the order of the checks: one list, one statement.
+-- Examples that pin the definitions: each row of 01's table of refusals with its place, the order of the checks, packets in any order,
+-- the signs of fields, and lent buffers. One list, one statement.
 -- Assumes nothing.
 use Prim.Native.Nat.{ℕ}
 use mathlib.Core.Path.{refl}
@@ -6,7 +7,7 @@ use mathlib.Core.List.{List, [], _∷_, _++_}
 use lib.IntN.{ℤ, pos, negsuc}
 use lib.ListN.{take, drop, replicate}
 use Rattle.format.specs.Measures.{scaled, Measures}
-use Rattle.format.proofs.Questions.{Question, checks, draws, packs, Reply, it, list, character, refusal, reply, Given, preamble, font, plain, short, letter, letterMeasures, letterPacket}
+use Rattle.format.proofs.Questions.{Question, checks, draws, packs, drawAnswers, drawLeaves, packAnswers, packLeaves, Reply, it, list, character, refusal, reply, Given, preamble, font, plain, short, letter, letterMeasures, letterPacket}
 
 -- A long packet with f = 14: its length, code, w and h in four bytes each, all else zero.
 abbrev long : List ℕ → List ℕ → List ℕ → List ℕ → List ℕ → List ℕ
@@ -15,14 +16,14 @@ long n code w h raster = 0xE7 ∷ (n ++ (code ++ (replicate 12 0 ++ (w ++ (h ++ 
 abbrev four : ℕ → ℕ → ℕ → ℕ → List ℕ
 four a b c d = a ∷ b ∷ c ∷ d ∷ []
 
--- The letter's measures with other escapements, and with another code.
+-- The letter's measures with other escapements, and with another code and dx.
 abbrev moving : ℤ → ℤ → Measures
 moving dx dy =
     record { code = pos 4; w = pos 20; h = pos 29; tfm = pos 640796; dx = scaled dx; dy = scaled dy; hoff = negsuc 1; voff = pos 28 }
 
-abbrev coded : ℤ → Measures
-coded code =
-    record { code = code; w = pos 20; h = pos 29; tfm = pos 640796; dx = scaled (pos 1638400); dy = scaled (pos 0); hoff = negsuc 1; voff = pos 28 }
+abbrev coded : ℤ → ℤ → Measures
+coded code dx =
+    record { code = code; w = pos 20; h = pos 29; tfm = pos 640796; dx = scaled dx; dy = scaled (pos 0); hoff = negsuc 1; voff = pos 28 }
 
 -- The letter's packet in the long form, with dx of 1638401 and dy of −1.
 abbrev longLetter : List ℕ → List ℕ
@@ -30,17 +31,28 @@ longLetter raster =
     0x8F ∷ (four 0 0 0 46 ++ (four 0 0 0 4 ++ (four 0 9 0xC7 0x1C ++ (four 0 0x19 0 1 ++ (four 255 255 255 255
     ++ (four 0 0 0 20 ++ (four 0 0 0 29 ++ (four 255 255 255 254 ++ (four 0 0 0 28 ++ raster)))))))))
 
+-- A black pixel of code 3: its packet, and what it draws.
+abbrev dotPacket : List ℕ
+dotPacket = 0xD8 ∷ 9 ∷ 3 ∷ 0 ∷ 0 ∷ 0 ∷ 0 ∷ 1 ∷ 1 ∷ 0 ∷ 0 ∷ 0x10 ∷ []
+
+abbrev dot : ℕ → Reply
+dot code = character (pos code ∷ pos 1 ∷ pos 1 ∷ pos 0 ∷ pos 0 ∷ pos 0 ∷ pos 0 ∷ pos 0 ∷ []) (1 ∷ [])
+
+-- The letter before the dot, with commands among them.
+abbrev falling : List ℕ
+falling = 240 ∷ 1 ∷ 7 ∷ (letterPacket ++ (244 ∷ (four 1 2 3 4 ++ dotPacket)))
+
 abbrev pub rows : List (Question × Reply)
 rows =
     (checks (replicate 65537 0), refusal 1 0)
     ∷ (checks [], refusal 2 0) ∷ (checks (246 ∷ 88 ∷ []), refusal 2 0)
     ∷ (checks (247 ∷ 88 ∷ []), refusal 3 0)
     -- inside the preamble; where a piece must begin; inside a command, also in its length; inside a packet's fixed part, although its
-    -- length is too small; inside its raster
+    -- length is too small; inside its raster, also with w, h outside the limits
     ∷ (checks (247 ∷ []), refusal 4 0) ∷ (checks (take 18 preamble), refusal 4 0) ∷ (checks preamble, refusal 4 19)
     ∷ (checks (preamble ++ 240 ∷ 2 ∷ 0 ∷ []), refusal 4 19) ∷ (checks (preamble ++ 246 ∷ 241 ∷ 0 ∷ []), refusal 4 20)
     ∷ (checks (preamble ++ 244 ∷ 0 ∷ 0 ∷ 0 ∷ []), refusal 4 19) ∷ (checks (preamble ++ 0 ∷ 7 ∷ []), refusal 4 19)
-    ∷ (checks (preamble ++ take 28 letterPacket), refusal 4 19)
+    ∷ (checks (preamble ++ take 28 letterPacket), refusal 4 19) ∷ (checks (preamble ++ 0xE0 ∷ 9 ∷ 4 ∷ 0 ∷ 0 ∷ 0 ∷ 0 ∷ 0 ∷ 1 ∷ 0 ∷ 0 ∷ []), refusal 4 19)
     ∷ (checks (preamble ++ 247 ∷ []), refusal 5 19) ∷ (checks (preamble ++ 255 ∷ []), refusal 5 19)
     -- a command's negative length; packet lengths below the fixed fields, and negative
     ∷ (checks (preamble ++ 243 ∷ four 255 255 255 255), refusal 6 19) ∷ (checks (font (0xE0 ∷ 7 ∷ replicate 9 0)), refusal 6 19)
@@ -70,8 +82,9 @@ rows =
     ∷ (checks (font letterPacket ++ 246 ∷ []), refusal 14 48) ∷ (checks (preamble ++ (letterPacket ++ 245 ∷ 246 ∷ 247 ∷ 246 ∷ [])), refusal 14 48)
     ∷ (checks (preamble ++ (letterPacket ++ 246 ∷ 246 ∷ 246 ∷ 245 ∷ [])), it 1)
     ∷ (checks (preamble ++ 245 ∷ []), refusal 15 19) ∷ (checks (preamble ++ 245 ∷ 247 ∷ []), refusal 15 19)
-    -- codes in falling order, and commands between the packets, are in order
-    ∷ (checks (font (240 ∷ 1 ∷ 7 ∷ (letterPacket ++ (244 ∷ (four 1 2 3 4 ++ (0xD8 ∷ 9 ∷ 3 ∷ 0 ∷ 0 ∷ 0 ∷ 0 ∷ 1 ∷ 1 ∷ 0 ∷ 0 ∷ 0x10 ∷ [])))))), it 2)
+    -- codes in falling order, and commands between the packets, are in order; each code draws its own packet
+    ∷ (checks (font falling), it 2) ∷ (draws (font falling) 3 1, dot 3) ∷ (draws (font (dotPacket ++ letterPacket)) 3 1, dot 3)
+    ∷ (draws (font falling) 4 580, character (pos 4 ∷ pos 20 ∷ pos 29 ∷ pos 640796 ∷ pos 1638400 ∷ pos 0 ∷ negsuc 1 ∷ pos 28 ∷ []) letter)
     -- a code that the font lacks, before a buffer that is too short; codes above 255; the font's own fault before both
     ∷ (draws (font letterPacket) 5 0, refusal 16 0) ∷ (draws (font letterPacket) 260 65536, refusal 16 0)
     ∷ (draws (font (short 0xD8 2 2 (0x41 ∷ []))) 5 0, refusal 13 19)
@@ -79,8 +92,8 @@ rows =
     -- packing: 18 before 19 before 8 before 20 before 17
     ∷ (packs (plain (pos 0) (pos 1)) [] 0, refusal 18 0) ∷ (packs (plain (pos 65536) (pos 65536)) (1 ∷ []) 0, refusal 18 0)
     ∷ (packs (plain (negsuc 0) (negsuc 0)) (1 ∷ []) 0, refusal 18 0)
-    ∷ (packs (coded (pos 256)) (1 ∷ []) 0, refusal 19 0) ∷ (packs (plain (pos 1) (pos 1)) (2 ∷ []) 0, refusal 19 0)
-    ∷ (packs (coded (pos 256)) letter 0, refusal 8 0) ∷ (packs (coded (negsuc 0)) letter 0, refusal 8 0)
+    ∷ (packs (coded (pos 256) (pos 0)) (1 ∷ []) 0, refusal 19 0) ∷ (packs (plain (pos 1) (pos 1)) (2 ∷ []) 0, refusal 19 0)
+    ∷ (packs (coded (pos 256) (pos 4294967296)) letter 0, refusal 8 0) ∷ (packs (coded (negsuc 0) (pos 0)) letter 0, refusal 8 0)
     -- dx of 2³¹ with a dy that only the long form holds; dx of 65,536 whole pixels
     ∷ (packs (moving (pos 2147483648) (pos 1)) letter 0, refusal 20 0) ∷ (packs (moving (pos 4294967296) (pos 0)) letter 0, refusal 20 0)
     ∷ (packs letterMeasures letter 28, refusal 17 0)
@@ -89,6 +102,15 @@ rows =
     ∷ (packs (moving (pos 1638401) (negsuc 0)) letter 55, list (longLetter (drop 11 letterPacket)))
     ∷ (draws (font (longLetter (drop 11 letterPacket))) 4 580, character (pos 4 ∷ pos 20 ∷ pos 29 ∷ pos 640796 ∷ pos 1638401 ∷ negsuc 0 ∷ negsuc 1 ∷ pos 28 ∷ []) letter)
     ∷ (checks (font (0xE1 ∷ 8 ∷ 4 ∷ 0 ∷ 0 ∷ 0 ∷ 0 ∷ 64 ∷ 32 ∷ 0 ∷ 0 ∷ replicate 256 0xAA)), it 1)
+    -- tfm and w of the short form are unsigned; tfm, dx, dy and the offsets of the long form are signed
+    ∷ (draws (font (0xE0 ∷ 33 ∷ 4 ∷ 255 ∷ 255 ∷ 255 ∷ 255 ∷ 200 ∷ 1 ∷ 128 ∷ 127 ∷ replicate 25 0)) 4 200, character (pos 4 ∷ pos 200 ∷ pos 1 ∷ pos 16777215 ∷ pos 16711680 ∷ pos 0 ∷ negsuc 127 ∷ pos 127 ∷ []) (replicate 200 0))
+    ∷ (draws (font (0xE7 ∷ (four 0 0 0 29 ++ (four 0 0 0 4 ++ (four 255 255 255 255 ++ (four 255 255 0 0 ++ (four 128 0 0 0 ++ (four 0 0 0 1 ++ (four 0 0 0 1 ++ (four 127 255 255 255 ++ (four 255 255 255 0 ++ (0x80 ∷ [])))))))))))) 4 1, character (pos 4 ∷ pos 1 ∷ pos 1 ∷ negsuc 0 ∷ negsuc 65535 ∷ negsuc 2147483647 ∷ pos 2147483647 ∷ negsuc 255 ∷ []) (1 ∷ []))
+    -- a lent buffer: filled in front and kept behind, kept whole by a refusal
+    ∷ (drawAnswers (font falling) 3 (0xAA ∷ 0xAA ∷ []), character (pos 3 ∷ pos 1 ∷ pos 1 ∷ pos 0 ∷ pos 0 ∷ pos 0 ∷ pos 0 ∷ pos 0 ∷ []) [])
+    ∷ (drawLeaves (font falling) 3 (0xAA ∷ 0xAA ∷ []), list (1 ∷ 0xAA ∷ [])) ∷ (drawLeaves (font falling) 4 (0xAA ∷ 0xAA ∷ []), list (0xAA ∷ 0xAA ∷ []))
+    ∷ (packAnswers (plain (pos 1) (pos 1)) (1 ∷ []) (replicate 14 0xAA), it 12)
+    ∷ (packLeaves (plain (pos 1) (pos 1)) (1 ∷ []) (replicate 14 0xAA), list (short 0xD8 1 1 (0x10 ∷ []) ++ 0xAA ∷ 0xAA ∷ []))
+    ∷ (packLeaves (plain (pos 1) (pos 1)) (1 ∷ []) (replicate 11 0xAA), list (replicate 11 0xAA))
     ∷ []
 
 -- The definitions give each.

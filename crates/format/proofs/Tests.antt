@@ -1,10 +1,12 @@
 -- Small laws of tests and of lists that the other files share. Assumes nothing.
 use Prim.Native.Nat.{ℕ, _≤_, _<_}
-use mathlib.Core.Path.{_≡_, refl}
-use mathlib.Core.Bool.{Bool, true, false, _&&_}
+use mathlib.Core.Path.{_≡_, refl, sym}
+use mathlib.Core.Bool.{Bool, true, false, _&&_, _||_}
 use native.Mathlib.Nat.{lt-of-not-le}
 use native.Mathlib.Decide.{decLe}
 use native.Mathlib.Omega.{arith}
+use lib.Dec.{eqb}
+use borrow.Author.Tests.{eqb-false, ne-eqb}
 
 -- One order or the other.
 pub split {ℓ} : {X : Type ℓ} (a b : ℕ) → (a ≤ b → X) → (b < a → X) → X
@@ -22,3 +24,12 @@ and-true false b e = absurd (let z : _≡_ {A = ℕ} 0 1 = cc in omega arith)
 
 pub true-and : {a b : Bool} → a ≡ true → b ≡ true → a && b ≡ true
 true-and p q = rw (p, q) refl
+
+-- None of two tests holds.
+pub or-false : (a b : Bool) → a || b ≡ false → (a ≡ false) × (b ≡ false)
+or-false true b e = absurd (let z : _≡_ {A = ℕ} 0 1 = cc in omega arith)
+or-false false b e = (refl, e)
+
+-- A test of equality may be turned round.
+pub eqb-sym : (a b : ℕ) → eqb a b ≡ false → eqb b a ≡ false
+eqb-sym a b e = ne-eqb b a (λ q. eqb-false a b e (sym q))

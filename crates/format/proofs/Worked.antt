@@ -1,5 +1,5 @@
 -- 01, Worked by hand: one list of questions with 01's replies, and one statement that the definitions give each. All marked P in 01
--- are here, and the others but for the listing, which a program runs. Assumes nothing.
+-- are here, and the others but for the listing, which a program is to run. Assumes nothing.
 use Prim.Native.Nat.{ℕ}
 use mathlib.Core.Path.{refl}
 use mathlib.Core.List.{List, [], _∷_}

@@ -17,10 +17,10 @@ inLimits (suc w) zero = false
 inLimits (suc w) (suc h) = leb (suc w * suc h) most
 
 -- The same of numbers that may be negative.
-unfoldable pub isBox : ℤ → ℤ → Bool
-isBox (pos w) (pos h) = inLimits w h
-isBox (pos w) (negsuc h) = false
-isBox (negsuc w) h = false
+unfoldable pub withinLimits : ℤ → ℤ → Bool
+withinLimits (pos w) (pos h) = inLimits w h
+withinLimits (pos w) (negsuc h) = false
+withinLimits (negsuc w) h = false
 
 -- A code is from 0 to 255.
 unfoldable pub isCode : ℤ → Bool

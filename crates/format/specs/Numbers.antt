@@ -24,7 +24,7 @@ pub data Kind : Type 0 where
   unsigned : ℕ → Kind
   signed : ℕ → Kind
 
--- Its bytes.
+-- How many bytes it has.
 abbrev pub width : Kind → ℕ
 width (unsigned k) = k
 width (signed k) = k
@@ -53,7 +53,7 @@ unfoldable pub allHeld : (ks : List Kind) → Values ks → Bool
 allHeld [] v = true
 allHeld (k ∷ ks) v = held k (v .0) && allHeld ks (v .1)
 
--- Their bytes.
+-- How many bytes they have.
 abbrev pub size : List Kind → ℕ
 size [] = 0
 size (k ∷ ks) = width k + size ks

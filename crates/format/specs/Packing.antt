@@ -6,8 +6,8 @@ use mathlib.Core.Bool.{Bool, true, _&&_}
 use lib.Dec.{eqb, leb, ltb}
 use lib.IntN.{natAbs}
 use lib.ListN.{length}
-use Rattle.format.specs.Limits.{isBox, isCode}
-use Rattle.format.specs.Refusals.{badCode, noRoom, badBitmapBox, badBitmap, Answer, answers, lent, Result, ok, _>>=_, need, answerAt}
+use Rattle.format.specs.Limits.{withinLimits, isCode}
+use Rattle.format.specs.Refusals.{badCode, noRoom, bitmapOutsideLimits, badBitmap, Answer, answers, lent, Result, ok, _>>=_, need, answerAt}
 use Rattle.format.specs.Measures.{Measures}
 use Rattle.format.specs.Pieces.{Packet, packet, bytesOf}
 use Rattle.format.specs.Rasters.{rows}
@@ -29,7 +29,7 @@ packetFor b m w h =
 -- The packet's bytes; 18, 19, 8, 20, 17 in this order.
 unfoldable pub packed : List ℕ → Measures → ℕ → Result (List ℕ)
 packed b m room = do
-  _ ← need (isBox (m .w) (m .h)) badBitmapBox
+  _ ← need (withinLimits (m .w) (m .h)) bitmapOutsideLimits
   _ ← need (eqb (length b) (natAbs (m .w) * natAbs (m .h)) && allPixels b) badBitmap
   _ ← need (isCode (m .code)) badCode
   p ← packetFor b m (natAbs (m .w)) (natAbs (m .h))

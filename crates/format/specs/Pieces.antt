@@ -7,7 +7,7 @@ use mathlib.Core.Bool.{Bool, true, false, cond, _&&_}
 use lib.Dec.{eqb, ltb}
 use lib.IntN.{ℤ, pos}
 use lib.ListN.{length}
-use Rattle.format.specs.Limits.{inLimits}
+use Rattle.format.specs.Limits.{inLimits, isCode}
 use Rattle.format.specs.Numbers.{bytes, Kind, unsigned, signed, held, Values, allHeld, fieldBytes}
 use Rattle.format.specs.Measures.{Pixels, pixels, Scaled, scaled, toScaled, Measures}
 
@@ -136,14 +136,15 @@ pub record PacketOk (p : Packet) : Type 0 where
   pub f : p .f ≤ 14
   pub fits : fits p ≡ true
   pub limits : inLimits (p .w) (p .h) ≡ true
-  pub code : p .code < 256
+  pub code : isCode (pos (p .code)) ≡ true
 
--- dx is dm × 65,536 and dy is 0 in the first two forms.
+-- dx is dm × 65,536 in the first two forms.
 abbrev pub dxOf : (k : Form) → Escapement k → Scaled
 dxOf short dm = toScaled dm
 dxOf extended dm = toScaled dm
 dxOf long e = e .0
 
+-- dy is 0 in the first two forms.
 abbrev pub dyOf : (k : Form) → Escapement k → Scaled
 dyOf short dm = toScaled (pixels 0)
 dyOf extended dm = toScaled (pixels 0)

@@ -32,9 +32,9 @@ Number (run n) = 0 < n
 Number (fourteen n) = 0 < n
 Number fifteen = Unit {0}
 
-abbrev pub Numbers : List Item → Type 0
-Numbers [] = Unit {0}
-Numbers (i ∷ is) = Number i × Numbers is
+abbrev pub AllNumbers : List Item → Type 0
+AllNumbers [] = Unit {0}
+AllNumbers (i ∷ is) = Number i × AllNumbers is
 
 -- If the nybbles taken are odd in number, the spare half byte is zero.
 unfoldable pub spare : ℕ → List ℕ
@@ -104,7 +104,7 @@ pub record Grid (w h k : ℕ) (repeatsOf : ℕ → List ℕ) (s : List ℕ) : Ty
 -- With f from 0 to 13: the bytes are the items' nybbles and the spare one, and draw these pixels.
 pub record RunRaster (f w h black : ℕ) (bytes drawn : List ℕ) : Type 0 where
   pub items : List Item
-  pub numbers : Numbers items
+  pub numbers : AllNumbers items
   pub nybbles-are : nybbles bytes ≡ writings f items ++ spare (length (writings f items))
   pub k : ℕ
   pub grid : Grid w h k (repeats w 0 items) (string black items)

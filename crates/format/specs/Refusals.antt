@@ -5,6 +5,7 @@ use mathlib.Core.List.{List, _++_}
 use mathlib.Core.Bool.{Bool, true, false}
 use lib.ListN.{length, drop}
 
+-- A name for each row, over it the case in which it is given.
 pub data Refusal : Type 0 where
   -- font longer than 65,536 bytes
   tooLong : Refusal
@@ -19,7 +20,7 @@ pub data Refusal : Type 0 where
   -- command length negative; packet length negative or below its own fixed fields
   badLength : Refusal
   -- w, h outside the limits
-  badBox : Refusal
+  outsideLimits : Refusal
   -- code in a packet, or handed in for packing, outside 0 to 255
   badCode : Refusal
   -- code seen in an earlier packet
@@ -41,7 +42,7 @@ pub data Refusal : Type 0 where
   -- lent buffer too short for the result
   noRoom : Refusal
   -- packing: w, h outside the limits
-  badBitmapBox : Refusal
+  bitmapOutsideLimits : Refusal
   -- packing: bitmap length not w × h, or a byte other than 0 or 1
   badBitmap : Refusal
   -- packing: measures that no packet form holds
@@ -60,7 +61,7 @@ numberAndPlace wrongId at = (3, 0)
 numberAndPlace fileEnds at = (4, at)
 numberAndPlace noPiece at = (5, at)
 numberAndPlace badLength at = (6, at)
-numberAndPlace badBox at = (7, at)
+numberAndPlace outsideLimits at = (7, at)
 numberAndPlace badCode at = (8, at)
 numberAndPlace codeTwice at = (9, at)
 numberAndPlace rasterEnds at = (10, at)
@@ -71,7 +72,7 @@ numberAndPlace badEnding at = (14, at)
 numberAndPlace noPacket at = (15, at)
 numberAndPlace noSuchCode at = (16, 0)
 numberAndPlace noRoom at = (17, 0)
-numberAndPlace badBitmapBox at = (18, 0)
+numberAndPlace bitmapOutsideLimits at = (18, 0)
 numberAndPlace badBitmap at = (19, 0)
 numberAndPlace noForm at = (20, 0)
 

@@ -6,9 +6,9 @@ use mathlib.Core.Bool.{Bool, true, false, cond, not, _&&_}
 use lib.Dec.{ltb, leb, eqb}
 use lib.IntN.{ℤ, pos, negsuc, natAbs}
 use lib.ListN.{length, take, drop}
-use Rattle.format.specs.Limits.{most, isBox, isCode}
+use Rattle.format.specs.Limits.{most, withinLimits, isCode}
 use Rattle.format.specs.Lists.{all, elem}
-use Rattle.format.specs.Refusals.{tooLong, noPreamble, wrongId, fileEnds, noPiece, badLength, badBox, badCode, codeTwice, badEnding, noPacket, Answer, gives, refused, answers, Result, ok, fault, _>>=_, need}
+use Rattle.format.specs.Refusals.{tooLong, noPreamble, wrongId, fileEnds, noPiece, badLength, outsideLimits, badCode, codeTwice, badEnding, noPacket, Answer, gives, refused, answers, Result, ok, fault, _>>=_, need}
 use Rattle.format.specs.Numbers.{Values, size}
 use Rattle.format.specs.Decoding.{number, valueOf, readFields}
 use Rattle.format.specs.Measures.{pixels, scaled}
@@ -75,7 +75,7 @@ packetOf b x raster =
 unfoldable pub rasterAt : ℕ → Header → ℕ → List ℕ → Result Front
 rasterAt b x n s = do
   _ ← need (leb n (length s)) fileEnds
-  _ ← need (isBox (x .w) (x .h)) badBox
+  _ ← need (withinLimits (x .w) (x .h)) outsideLimits
   _ ← need (isCode (x .code)) badCode
   ok (piece (packet (packetOf b x (take n s))) (drop n s))
 
@@ -113,7 +113,7 @@ step (b ∷ s) =
     (cond (eqb b 244) (numericAt s)
     (cond (eqb b 245) (ok (last s)) (cond (eqb b 246) (ok (piece noop s)) (fault noPiece)))))
 
--- A packet behind others with the codes seen: 9, then the raster's faults.
+-- The packet of a piece, which has at most one, behind others with the codes seen: 9, then the raster's faults.
 unfoldable pub checked : List ℕ → List Packet → Result (List Item)
 checked seen [] = ok []
 checked seen (p ∷ ps) = do
@@ -131,6 +131,7 @@ orElse place (fault r) x = refused r place
 unfoldable pub prepend : Piece → Parts → Parts
 prepend p x = record { preamble = x .preamble; pieces = p ∷ x .pieces; pad = x .pad }
 
+-- No code was seen.
 unfoldable pub isNil : List ℕ → Bool
 isNil [] = true
 isNil (x ∷ xs) = false
@@ -154,6 +155,7 @@ unfoldable pub onwardF : Preamble → ℕ → ℕ → List ℕ → List ℕ → 
 onwardF a zero place seen s = refused fileEnds place
 onwardF a (suc g) place seen s = next a (onwardF a g) place seen (step s)
 
+-- The same, with a bound that is enough.
 unfoldable pub onward : Preamble → ℕ → List ℕ → List ℕ → Answer Parts
 onward a place seen s = onwardF a (suc (length s)) place seen s
 

@@ -17,7 +17,7 @@ pub enum Read {
 // Above every limit: no run or repeat of a raster is so long.
 const OVER: usize = 65537;
 
-// No less than any sum that 65,537 - M + 15 can be part of: digits are held here.
+// A sum of digits is held here: less 15, plus any M, it is still at least OVER.
 const CAP: usize = 131072;
 
 // The most that two nybbles reach, for f = 0 to 13.
