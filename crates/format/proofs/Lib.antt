@@ -12,5 +12,4 @@ pub mod CutExample
 pub mod FindLaws
 pub mod CommandLaws
 pub mod Questions
-pub mod Worked
 pub mod Rows
