@@ -1,5 +1,5 @@
 -- Examples that pin the definitions: each row of 01's table of refusals with its place, the order of the checks, packets in any order,
--- the signs of fields, and lent buffers. One list, one statement.
+-- the signs of fields, large numbers, and lent buffers. One list, one statement.
 -- Assumes nothing.
 use Prim.Native.Nat.{ℕ}
 use mathlib.Core.Path.{refl}
@@ -105,6 +105,10 @@ rows =
     -- tfm and w of the short form are unsigned; tfm, dx, dy and the offsets of the long form are signed
     ∷ (draws (font (0xE0 ∷ 33 ∷ 4 ∷ 255 ∷ 255 ∷ 255 ∷ 255 ∷ 200 ∷ 1 ∷ 128 ∷ 127 ∷ replicate 25 0)) 4 200, character (pos 4 ∷ pos 200 ∷ pos 1 ∷ pos 16777215 ∷ pos 16711680 ∷ pos 0 ∷ negsuc 127 ∷ pos 127 ∷ []) (replicate 200 0))
     ∷ (draws (font (0xE7 ∷ (four 0 0 0 29 ++ (four 0 0 0 4 ++ (four 255 255 255 255 ++ (four 255 255 0 0 ++ (four 128 0 0 0 ++ (four 0 0 0 1 ++ (four 0 0 0 1 ++ (four 127 255 255 255 ++ (four 255 255 255 0 ++ (0x80 ∷ [])))))))))))) 4 1, character (pos 4 ∷ pos 1 ∷ pos 1 ∷ negsuc 0 ∷ negsuc 65535 ∷ negsuc 2147483647 ∷ pos 2147483647 ∷ negsuc 255 ∷ []) (1 ∷ []))
+    -- each offset of the extended form has its own sign; numbers of three nybbles, read and written
+    ∷ (draws (font (0xE4 ∷ 0 ∷ 14 ∷ 4 ∷ 0 ∷ 0 ∷ 0 ∷ 0xFF ∷ 0xFF ∷ 0 ∷ 1 ∷ 0 ∷ 1 ∷ 0xFF ∷ 0xFE ∷ 0 ∷ 3 ∷ 0x80 ∷ [])) 4 1, character (pos 4 ∷ pos 1 ∷ pos 1 ∷ pos 0 ∷ pos 4294901760 ∷ pos 0 ∷ negsuc 1 ∷ pos 3 ∷ []) (1 ∷ []))
+    ∷ (draws (font (short 0xD8 4 4 (0x01 ∷ 0x11 ∷ []))) 4 16, character (pos 4 ∷ pos 4 ∷ pos 4 ∷ pos 0 ∷ pos 0 ∷ pos 0 ∷ pos 0 ∷ pos 0 ∷ []) (replicate 15 1 ++ 0 ∷ []))
+    ∷ (packs (plain (pos 16) (pos 16)) (replicate 256 0) 13, list (short 0xC0 16 16 (0x0F ∷ 0x30 ∷ [])))
     -- a lent buffer: filled in front and kept behind, kept whole by a refusal
     ∷ (drawAnswers (font falling) 3 (0xAA ∷ 0xAA ∷ []), character (pos 3 ∷ pos 1 ∷ pos 1 ∷ pos 0 ∷ pos 0 ∷ pos 0 ∷ pos 0 ∷ pos 0 ∷ []) [])
     ∷ (drawLeaves (font falling) 3 (0xAA ∷ 0xAA ∷ []), list (1 ∷ 0xAA ∷ [])) ∷ (drawLeaves (font falling) 4 (0xAA ∷ 0xAA ∷ []), list (0xAA ∷ 0xAA ∷ []))
