@@ -13,3 +13,14 @@ pub mod FindLaws
 pub mod CommandLaws
 pub mod Questions
 pub mod Rows
+pub mod Behind
+pub mod RowLaws
+pub mod StateLaws
+pub mod ReadingLaws
+pub mod ReadingTheorems
+pub mod BitLaws
+pub mod FillLaws
+pub mod ShorterLaws
+pub mod CodeLaws
+pub mod OnwardLaws
+pub mod CutTheorems
