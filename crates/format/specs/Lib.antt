@@ -10,6 +10,7 @@ pub mod Cut
 pub mod Decoding
 pub mod Reading
 pub mod Verdict
+pub mod Faults
 pub mod Drawing
 pub mod Counts
 pub mod Choice
