@@ -1,8 +1,9 @@
 -- No code stands twice: as the verdict collects the codes seen, and as the cut says it. Assumes nothing.
 use Prim.Native.Nat.{ℕ, _+_}
-use mathlib.Core.Path.{_≡_, refl}
+use mathlib.Core.Path.{_≡_, refl, ap, _∙_}
 use mathlib.Core.List.{List, [], _∷_}
-use mathlib.Core.Bool.{false}
+use mathlib.Core.Bool.{Bool, true, false, _||_}
+use mathlib.Core.Logic.{_↔_}
 use native.Mathlib.Omega.{arith}
 use lib.Dec.{eqb}
 use lib.ListN.{length}
@@ -67,3 +68,31 @@ distinct-fresh ps d = both-fresh ps [] d (apart-nil (codes ps))
 pub length-seen : (ps : List Packet) (seen : List ℕ) → length (seenAfter ps seen) ≡ length ps + length seen
 length-seen [] seen = omega arith
 length-seen (p ∷ ps) seen = omega (arith, length-seen ps (p .code ∷ seen))
+
+or-swap : (a b c : Bool) → (a || b) || c ≡ b || (a || c)
+or-swap true true c = refl
+or-swap true false c = refl
+or-swap false b c = refl
+
+-- The codes seen are those of the packets, in whatever order,
+elem-after : (c : ℕ) (ps : List Packet) (seen : List ℕ) → elem c (seenAfter ps seen) ≡ elem c seen || elem c (codes ps)
+unfolding codes elem
+elem-after c [] seen = or-none (elem c seen)
+  where
+    or-none : (b : Bool) → b ≡ b || false
+    or-none true = refl
+    or-none false = refl
+elem-after c (p ∷ ps) seen = elem-after c ps (p .code ∷ seen) ∙ or-swap (eqb c (p .code)) (elem c seen) (elem c (codes ps))
+
+pub elem-seen : (c : ℕ) (ps : List Packet) → elem c (seenAfter ps []) ≡ elem c (codes ps)
+unfolding elem
+elem-seen c ps = elem-after c ps []
+
+-- and none are seen just if there are none.
+pub none-seen : (ps : List Packet) → (seenAfter ps [] ≡ []) ↔ (codes ps ≡ [])
+unfolding codes
+none-seen [] = (λ e. e, λ e. e)
+none-seen (p ∷ ps) = (
+  (λ e. absurd (omega (arith, ap length e, length-seen ps (p .code ∷ [])))),
+  (λ e. absurd (omega (arith, ap length e))),
+)

@@ -12,7 +12,7 @@ use borrow.Author.Tests.{ltb-false, eqb-true, eqb-false, le-ltb, ne-eqb}
 use Rattle.format.specs.Refusals.{gives, answers, tooLong, noPreamble, wrongId, fileEnds}
 use Rattle.format.specs.Numbers.{Bytes, fieldBytes}
 use Rattle.format.specs.Pieces.{Preamble, preambleKinds, preambleValues, preambleBytes, PreambleOk}
-use Rattle.format.specs.Cut.{flat, packets, Parts, join, Cut}
+use Rattle.format.specs.Cut.{flat, packets, Parts, chars, join, Cut}
 use Rattle.format.specs.Decoding.{readFields}
 use Rattle.format.specs.Verdict.{isNil, onward, preambleOf, preambleAt, begin, verdict, check}
 use Rattle.format.proofs.FieldLaws.{bytes-drop, length-fields, read-fields, fields-read}
@@ -43,17 +43,23 @@ preamble-read a t o =
       read-fields preambleKinds (preambleValues a) t (o .fields),
     )
 
-preamble-length : (a : Preamble) → length (preambleBytes a) ≡ length (a .comment) + 19
+pub preamble-length : (a : Preamble) → length (preambleBytes a) ≡ length (a .comment) + 19
 unfolding preambleBytes
 preamble-length a = rw (length-append (a .comment) (fieldBytes preambleKinds (preambleValues a)), length-fields preambleKinds (preambleValues a)) (omega arith)
 
-cut-tail : (s : List ℕ) (x : Parts) → Cut s x → Tail (length (x .preamble .comment) + 19) [] (flat (x .pieces) ++ 245 ∷ replicate (x .pad) 246) (x .pieces) (x .pad)
+-- A font with a preamble is judged by what follows it.
+pub preamble-verdict : (s : List ℕ) (a : Preamble) (t : List ℕ) → length s ≤ 65536 → s ≡ preambleBytes a ++ t → PreambleOk a
+    → verdict s ≡ onward a (length (preambleBytes a)) [] t
+unfolding verdict begin preambleBytes
+preamble-verdict s a t l e o =
+    rw (le-ltb 65536 (length s) l, e, append-assoc (a .comment) (fieldBytes preambleKinds (preambleValues a)) t, preamble-length a) (preamble-read a t o)
+
+cut-tail : (s : List ℕ) (x : Parts) → Cut s x → Tail (length (preambleBytes (x .preamble))) [] (flat (x .pieces) ++ 245 ∷ replicate (x .pad) 246) (x .pieces) (x .pad)
 unfolding join
 cut-tail s x c =
     let t = flat (x .pieces) ++ 245 ∷ replicate (x .pad) 246 in
     let ps = packets (x .pieces) in
-    let l : length s ≡ length (x .preamble .comment) + 19 + length t =
-    ap length (c .whole) ∙ length-append (preambleBytes (x .preamble)) t ∙ rw (preamble-length (x .preamble)) refl in
+    let l = ap length (c .whole) ∙ length-append (preambleBytes (x .preamble)) t in
     record {
       whole = refl;
       four = omega (arith, c .four);
@@ -64,17 +70,16 @@ cut-tail s x c =
     }
 
 pub cut-verdict : (s : List ℕ) (x : Parts) → Cut s x → verdict s ≡ gives x
-unfolding verdict begin preambleBytes join
+unfolding join
 cut-verdict s x c =
     let a = x .preamble in
     let t = flat (x .pieces) ++ 245 ∷ replicate (x .pad) 246 in
-    rw (le-ltb 65536 (length s) (c .small), c .whole, append-assoc (a .comment) (fieldBytes preambleKinds (preambleValues a)) t, preamble-read a t (c .preamble))
-    (tail-onward a (x .pieces) (x .pad) (length (a .comment) + 19) [] t (cut-tail s x c))
+    preamble-verdict s a t (c .small) (c .whole) (c .preamble) ∙ tail-onward a (x .pieces) (x .pad) (length (preambleBytes a)) [] t (cut-tail s x c)
 
 -- ---- what is accepted is cut
 
 -- The preamble that is read stands there.
-preamble-is : (k : ℕ) (s : List ℕ) → k < 256 → Bytes s → k + 16 ≤ length s
+pub preamble-is : (k : ℕ) (s : List ℕ) → k < 256 → Bytes s → k + 16 ≤ length s
     → (247 ∷ 89 ∷ k ∷ s ≡ preambleBytes (preambleOf (take k s) (readFields preambleKinds (drop k s))) ++ drop (k + 16) s)
     × PreambleOk (preambleOf (take k s) (readFields preambleKinds (drop k s)))
 unfolding preambleBytes
@@ -138,10 +143,10 @@ verdict-cut s x hs e =
 pub accepts : (s : List ℕ) (x : Parts) → Bytes s → (verdict s ≡ gives x) ↔ Cut s x
 accepts s x b = (verdict-cut s x b, cut-verdict s x)
 
--- The number of characters is that of the cut's packets.
-pub counts : (s : List ℕ) (n : ℕ) → Bytes s → (check s ≡ gives n) ↔ ((x : Parts) × Cut s x × (length (packets (x .pieces)) ≡ n))
+-- The number of characters answered is the cut's.
+pub counts-chars : (s : List ℕ) (n : ℕ) → Bytes s → (check s ≡ gives n) ↔ ((x : Parts) × Cut s x × (chars x ≡ n))
 unfolding check answers
-counts s n b = (
-  (λ e. let t = answers-gives (λ x. length (packets (x .pieces))) (verdict s) n e in (t .0, verdict-cut s (t .0) b (t .1), t .2)),
+counts-chars s n b = (
+  (λ e. let t = answers-gives chars (verdict s) n e in (t .0, verdict-cut s (t .0) b (t .1), t .2)),
   (λ t. rw (cut-verdict s (t .0) (t .1)) (ap gives (t .2))),
 )

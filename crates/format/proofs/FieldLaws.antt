@@ -7,7 +7,7 @@ use native.Mathlib.Nat.{div-lt-iff-lt-mul, pow-succ', one-le-pow, mod-lt, div-ad
 use native.Mathlib.Omega.{arith}
 use lib.Dec.{ltb}
 use lib.IntN.{ℤ, pos, negsuc}
-use lib.ListN.{length, take, drop, length-append, length-drop}
+use lib.ListN.{length, getD, take, drop, length-append, length-drop}
 use lib.Seq.{drop-at, take-add}
 use borrow.Author.Tests.{ltb-true, ltb-false, leb-true, lt-ltb, le-ltb, le-leb}
 use Rattle.format.specs.Numbers.{Bytes, bytes, Kind, unsigned, signed, width, held, twos, Values, allHeld, size, fieldBytes}
@@ -21,6 +21,11 @@ pub bytes-drop : (n : ℕ) (s : List ℕ) → Bytes s → Bytes (drop n s)
 bytes-drop zero s h = h
 bytes-drop (suc n) [] h = tt
 bytes-drop (suc n) (b ∷ s) h = bytes-drop n s (h .1)
+
+-- The entries of a slice are bytes.
+pub bytes-of : (s : List ℕ) → ((i : ℕ) → getD s i 0 < 256) → Bytes s
+bytes-of [] l = tt
+bytes-of (b ∷ s) l = (l 0, bytes-of s (λ i. l (suc i)))
 
 -- ---- numbers
 

@@ -18,7 +18,7 @@ use Rattle.format.proofs.BitLaws.{bits-read, read-bits}
 use Rattle.format.proofs.ReadingTheorems.{raster-read, read-raster}
 
 -- Within the limits, w of 0 has h of 0, and w of at least 1 has h of at least 1.
-limits-none : (h : ℕ) → inLimits 0 h ≡ true → h ≡ 0
+pub limits-none : (h : ℕ) → inLimits 0 h ≡ true → h ≡ 0
 unfolding inLimits
 limits-none zero e = refl
 limits-none (suc h) e = absurd (let z : _≡_ {A = ℕ} 0 1 = cc in omega arith)

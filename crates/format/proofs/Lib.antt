@@ -1,4 +1,5 @@
 pub mod Tests
+pub mod RefusalLaws
 pub mod PackedLaws
 pub mod PackedEdges
 pub mod Table
@@ -11,11 +12,13 @@ pub mod RasterLaws
 pub mod CutExample
 pub mod FindLaws
 pub mod CommandLaws
+pub mod OrderLaws
 pub mod Questions
 pub mod Rows
 pub mod Behind
 pub mod RowLaws
 pub mod StateLaws
+pub mod InsideLaws
 pub mod ReadingLaws
 pub mod ReadingTheorems
 pub mod BitLaws
@@ -24,3 +27,9 @@ pub mod ShorterLaws
 pub mod CodeLaws
 pub mod OnwardLaws
 pub mod CutTheorems
+pub mod RasterFaultLaws
+pub mod PieceFaultLaws
+pub mod FaultTheorems
+pub mod RasterFaultConverse
+pub mod PieceFaultConverse
+pub mod FaultConverse

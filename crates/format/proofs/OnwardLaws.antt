@@ -6,7 +6,7 @@ use mathlib.Core.Bool.{Bool, true, false, cond, not, _&&_}
 use native.Mathlib.Omega.{arith}
 use lib.Dec.{eqb}
 use lib.ListN.{length, replicate, length-append, length-replicate}
-use borrow.Author.Tests.{eqb-true}
+use borrow.Author.Tests.{eqb-true, not-true}
 use Rattle.format.specs.Lists.{all, elem}
 use Rattle.format.specs.Refusals.{Refusal, codeTwice, noPacket, badEnding, Answer, gives, refused, answers, Result, ok, fault, _>>=_, need}
 use Rattle.format.specs.Numbers.{Bytes, fieldBytes}
@@ -44,11 +44,7 @@ unfolding answers
 answers-gives f (gives a) b e = (a, refl, cc)
 answers-gives f (refused x place) b e = absurd (refused≢ e)
 
-not-true : (b : Bool) → not b ≡ true → b ≡ false
-not-true true e = sym e
-not-true false e = refl
-
-bytes-left : (xs r : List ℕ) → Bytes (xs ++ r) → Bytes xs
+pub bytes-left : (xs r : List ℕ) → Bytes (xs ++ r) → Bytes xs
 bytes-left [] r h = tt
 bytes-left (x ∷ xs) r h = (h .0, bytes-left xs r (h .1))
 
@@ -56,17 +52,17 @@ pub bytes-right : (xs r : List ℕ) → Bytes (xs ++ r) → Bytes r
 bytes-right [] r h = h
 bytes-right (x ∷ xs) r h = bytes-right xs r (h .1)
 
-raster-bytes : (p : Packet) (r : List ℕ) → Bytes (bytesOf (packet p) ++ r) → Bytes (p .raster)
+pub raster-bytes : (p : Packet) (r : List ℕ) → Bytes (bytesOf (packet p) ++ r) → Bytes (p .raster)
 unfolding bytesOf
 raster-bytes p r h = bytes-right (fieldBytes (kinds (p .form)) (fields p)) (p .raster) (bytes-left (flag p ∷ (fieldBytes (kinds (p .form)) (fields p) ++ p .raster)) r h .1)
 
 -- ---- one piece
 
 -- The packets of a piece are fresh, and their rasters filled.
-abbrev Good : List ℕ → Piece → Type 0
+abbrev pub Good : List ℕ → Piece → Type 0
 Good seen p = Fresh seen (packets (p ∷ [])) × AllFilled (packets (p ∷ []))
 
-checked-good : (seen : List ℕ) (p : Piece) (r : List ℕ) (is : List Item) → PieceOk p → Bytes (bytesOf p ++ r) → checked seen (packets (p ∷ [])) ≡ ok is → Good seen p
+pub checked-good : (seen : List ℕ) (p : Piece) (r : List ℕ) (is : List Item) → PieceOk p → Bytes (bytesOf p ++ r) → checked seen (packets (p ∷ [])) ≡ ok is → Good seen p
 unfolding checked packets
 checked-good seen (special k xs) r is o b e = (tt, tt)
 checked-good seen (numeric xs) r is o b e = (tt, tt)
@@ -97,12 +93,12 @@ pub record Tail (place : ℕ) (seen s : List ℕ) (ps : List Piece) (pad : ℕ) 
   pub any : isNil (seenAfter (packets ps) seen) ≡ false
 
 -- What is said of the packets behind a piece, and of them with it.
-record With (seen : List ℕ) (p : Piece) (ps : List Piece) : Type 0 where
-  filled : AllFilled (packets (p ∷ ps))
-  fresh : Fresh seen (packets (p ∷ ps))
-  after : seenAfter (packets (p ∷ ps)) seen ≡ seenAfter (packets ps) (codes (packets (p ∷ [])) ++ seen)
+pub record With (seen : List ℕ) (p : Piece) (ps : List Piece) : Type 0 where
+  pub filled : AllFilled (packets (p ∷ ps))
+  pub fresh : Fresh seen (packets (p ∷ ps))
+  pub after : seenAfter (packets (p ∷ ps)) seen ≡ seenAfter (packets ps) (codes (packets (p ∷ [])) ++ seen)
 
-with-piece : (seen : List ℕ) (p : Piece) (ps : List Piece) → Good seen p → AllFilled (packets ps) → Fresh (codes (packets (p ∷ [])) ++ seen) (packets ps) → With seen p ps
+pub with-piece : (seen : List ℕ) (p : Piece) (ps : List Piece) → Good seen p → AllFilled (packets ps) → Fresh (codes (packets (p ∷ [])) ++ seen) (packets ps) → With seen p ps
 unfolding packets codes
 with-piece seen (special k xs) ps g a f = record { filled = a; fresh = f; after = refl }
 with-piece seen (numeric xs) ps g a f = record { filled = a; fresh = f; after = refl }
@@ -154,9 +150,21 @@ unfolding flat packets
 last-tail place seen s r e f g h =
     record { whole = e ∙ ap (λ (y : List ℕ). 245 ∷ y) f; four = g; pieces = tt; filled = tt; fresh = tt; any = h }
 
-nothing-more : (seen : List ℕ) → isNil (seenAfter (packets []) seen) ≡ false → isNil seen ≡ false
-unfolding packets
-nothing-more seen e = e
+-- Pieces in front of what the rest answers.
+abbrev pub inFront : List Piece → Answer Parts → Answer Parts
+inFront [] r = r
+inFront (p ∷ ps) r = answers (prepend p) (inFront ps r)
+
+front-gives : (a : Preamble) (pad : ℕ) (ps : List Piece)
+    → inFront ps (gives (record { preamble = a; pieces = []; pad = pad })) ≡ gives (record { preamble = a; pieces = ps; pad = pad })
+unfolding answers prepend
+front-gives a pad [] = refl
+front-gives a pad (p ∷ ps) = rw (front-gives a pad ps) refl
+
+pub front-refused : (x : Refusal) (place : ℕ) (ps : List Piece) → inFront ps (refused x place) ≡ refused x place
+unfolding answers
+front-refused x place [] = refl
+front-refused x place (p ∷ ps) = rw (front-refused x place ps) refl
 
 module _ (a : Preamble) where
   -- What is found from a place on are the pieces there. g bounds the bytes.
@@ -183,20 +191,27 @@ module _ (a : Preamble) where
           (refl, last-tail place seen s r k (t .2) (omega arith) (t .1))
       go ih (fault y) k m q = absurd (refused≢ q)
 
+  -- Pieces in order are found, and then what the rest answers.
+  pub pieces-onward : (ps : List Piece) (place : ℕ) (seen rest : List ℕ) → AllOk ps → AllFilled (packets ps) → Fresh seen (packets ps)
+      → onward a place seen (flat ps ++ rest) ≡ inFront ps (onward a (place + length (flat ps)) (seenAfter (packets ps) seen) rest)
+  unfolding next flat packets orElse
+  pieces-onward [] place seen rest o d f = let z : place + 0 ≡ place = omega arith in rw z refl
+  pieces-onward (p ∷ ps) place seen rest o d f =
+      let u = without-piece seen p ps d f in
+      let c = good-checked seen p (o .0) (u .good) in
+      let i = pieces-onward ps (place + length (bytesOf p)) (codes (packets (p ∷ [])) ++ seen) rest (o .1) (u .filled) (u .fresh) in
+      let n : place + length (bytesOf p ++ flat ps) ≡ place + length (bytesOf p) + length (flat ps) = rw length-append (omega arith) in
+      onward-step a place seen (flat (p ∷ ps) ++ rest)
+      ∙ rw (append-assoc (bytesOf p) (flat ps) rest, step-piece p (flat ps ++ rest) (o .0), c .1, i, n, u .after) refl
+
   -- The pieces of a cut are found.
   pub tail-onward : (ps : List Piece) (pad place : ℕ) (seen s : List ℕ) → Tail place seen s ps pad → onward a place seen s ≡ gives (record { preamble = a; pieces = ps; pad = pad })
-  unfolding next ending flat step prepend orElse answers
-  tail-onward [] pad place seen s t =
-      let l : length s ≡ suc pad = ap length (t .whole) ∙ ap suc (length-replicate {A = ℕ} pad 246) in
-      let m : (place + 1 + pad) % 4 ≡ 0 = omega (arith, t .four) in
-      let n : isNil seen ≡ false = nothing-more seen (t .any) in
-      onward-step a place seen s ∙ rw (t .whole, n, all-same 246 pad, length-replicate {A = ℕ} pad 246, m) refl
-  tail-onward (p ∷ ps) pad place seen s t =
-      let r = flat ps ++ 245 ∷ replicate pad 246 in
-      let w : s ≡ bytesOf p ++ r = t .whole ∙ append-assoc (bytesOf p) (flat ps) (245 ∷ replicate pad 246) in
-      let l = longer s p r w in
-      let u = without-piece seen p ps (t .filled) (t .fresh) in
-      let c = good-checked seen p (t .pieces .0) (u .good) in
-      let i = tail-onward ps pad (place + length (bytesOf p)) (codes (packets (p ∷ [])) ++ seen) r
-      (record { whole = refl; four = omega (arith, t .four); pieces = t .pieces .1; filled = u .filled; fresh = u .fresh; any = ap isNil (sym (u .after)) ∙ t .any }) in
-      onward-step a place seen s ∙ rw (w, step-piece p r (t .pieces .0), c .1, i) refl
+  unfolding next ending step
+  tail-onward ps pad place seen s t =
+      let to = place + length (flat ps) in
+      let r : List ℕ = 245 ∷ replicate pad 246 in
+      let l : length s ≡ length (flat ps) + suc pad = ap length (t .whole) ∙ length-append (flat ps) r ∙ rw (length-replicate {A = ℕ} pad 246) refl in
+      let m : (to + 1 + pad) % 4 ≡ 0 = omega (arith, t .four) in
+      ap (onward a place seen) (t .whole)
+      ∙ pieces-onward ps place seen r (t .pieces) (t .filled) (t .fresh)
+      ∙ rw (onward-step a to (seenAfter (packets ps) seen) r, t .any, all-same 246 pad, length-replicate {A = ℕ} pad 246, m) (front-gives a pad ps)

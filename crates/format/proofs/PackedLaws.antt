@@ -233,11 +233,11 @@ zeros-are k p = digits-behind k k p (omega arith)
 
 -- ---- what is written are nybbles
 
-nybbles-join : (xs ys : List ℕ) → Nybbles xs → Nybbles ys → Nybbles (xs ++ ys)
+pub nybbles-join : (xs ys : List ℕ) → Nybbles xs → Nybbles ys → Nybbles (xs ++ ys)
 nybbles-join [] ys h k = k
 nybbles-join (x ∷ xs) ys h k = (h .0, nybbles-join xs ys (h .1) k)
 
-nybbles-zero : (n : ℕ) → Nybbles (replicate n 0)
+pub nybbles-zero : (n : ℕ) → Nybbles (replicate n 0)
 nybbles-zero zero = tt
 nybbles-zero (suc n) = (omega arith, nybbles-zero n)
 

@@ -12,13 +12,14 @@ use lib.ListN.{length, take, drop, length-append, take-append-drop}
 use lib.Seq.{length-take-le, take-append-seam, drop-append-seam, take-at, drop-at}
 use borrow.Author.Tests.{ltb-true, ltb-false, leb-true, eqb-true, eqb-false, lt-ltb, le-ltb, le-leb, eq-eqb, ne-eqb}
 use Rattle.format.specs.Limits.{inLimits, withinLimits, isCode}
-use Rattle.format.specs.Refusals.{Refusal, fileEnds, noPiece, badLength, outsideLimits, badCode, Result, ok, fault, _>>=_, need}
+use Rattle.format.specs.Refusals.{fileEnds, badLength, outsideLimits, badCode, Result, ok, fault, _>>=_, need}
 use Rattle.format.specs.Numbers.{Bytes, bytes, unsigned, signed, held, twos, Values, allHeld, size, fieldBytes}
 use Rattle.format.specs.Decoding.{number, valueOf, readFields}
 use Rattle.format.specs.Measures.{pixels, scaled}
 use Rattle.format.specs.Pieces.{Form, short, extended, long, Escapement, kinds, fixed, formBits, lengthTop, Packet, packetLength, values, fields, blackBit, flag, fits, PacketOk, Piece, special, numeric, noop, packet, lengthKind, bytesOf, SpecialOk, PieceOk}
 use Rattle.format.specs.Verdict.{Front, piece, last, atLeast, formOf, Header, header, packetOf, rasterAt, packetAt, specialAt, numericAt, step}
 use Rattle.format.proofs.Tests.{and-true, true-and}
+use Rattle.format.proofs.RefusalLaws.{need-case, cond-case}
 use Rattle.format.proofs.FieldLaws.{length-bytes, number-bytes, number-bound, bytes-number, Held, held-is, value-twos, twos-value, length-fields, read-fields, Wrote, fields-read}
 
 -- ---- a packet as the reader sees it
@@ -155,12 +156,6 @@ Is s (ok (piece p r)) = Found s p r
 Is s (ok (last r)) = s ≡ 245 ∷ r
 Is s (fault x) = Unit {0}
 
--- What follows a test may use it.
-need-is : (s : List ℕ) (b : Bool) (x : Refusal) (f : Unit {0} → Result Front) → (b ≡ true → Is s (f tt)) → Is s (need b x >>= f)
-unfolding need _>>=_
-need-is s true x f k = k refl
-need-is s false x f k = tt
-
 plain-held : (k : ℕ) (z : ℤ) → held (unsigned k) z ≡ true → (pos (natAbs z) ≡ z) × (natAbs z < 256 ^ k)
 plain-held k z e = go z (held-is (unsigned k) z e)
   where
@@ -245,18 +240,18 @@ module _ (b : ℕ) (raster : List ℕ) where
       let t = lt-ltb (fixed long + length raster) (lengthTop long) (omega arith) in
       record { same = rw (← n, c, w, h); head = omega (arith, black-back b); fits = true-and t (rw (← n, c, w, h) hs) }
 
-at-least : (m : ℕ) (z : ℤ) → atLeast m z ≡ true → (z ≡ pos (natAbs z)) × (m ≤ natAbs z)
+pub at-least : (m : ℕ) (z : ℤ) → atLeast m z ≡ true → (z ≡ pos (natAbs z)) × (m ≤ natAbs z)
 unfolding atLeast
 at-least m (pos n) e = (refl, leb-true m n e)
 at-least m (negsuc n) e = absurd (let z : _≡_ {A = ℕ} 0 1 = cc in omega arith)
 
-box-true : (w h : ℤ) → withinLimits w h ≡ true → (pos (natAbs w) ≡ w) × (pos (natAbs h) ≡ h) × (inLimits (natAbs w) (natAbs h) ≡ true)
+pub box-true : (w h : ℤ) → withinLimits w h ≡ true → (pos (natAbs w) ≡ w) × (pos (natAbs h) ≡ h) × (inLimits (natAbs w) (natAbs h) ≡ true)
 unfolding withinLimits
 box-true (pos w) (pos h) e = (refl, refl, e)
 box-true (pos w) (negsuc h) e = absurd (let z : _≡_ {A = ℕ} 0 1 = cc in omega arith)
 box-true (negsuc w) h e = absurd (let z : _≡_ {A = ℕ} 0 1 = cc in omega arith)
 
-code-true : (c : ℤ) → isCode c ≡ true → (pos (natAbs c) ≡ c) × (isCode (pos (natAbs c)) ≡ true)
+pub code-true : (c : ℤ) → isCode c ≡ true → (pos (natAbs c) ≡ c) × (isCode (pos (natAbs c)) ≡ true)
 unfolding isCode
 code-true (pos c) e = (refl, e)
 code-true (negsuc c) e = absurd (let z : _≡_ {A = ℕ} 0 1 = cc in omega arith)
@@ -282,11 +277,11 @@ packet-is b s k hb hk v wrote =
     let x = header k b v in
     let t = drop (size (kinds k)) s in
     let n = natAbs (x .length) - fixed k in
-    need-is (b ∷ s) (leb (size (kinds k)) (length s)) fileEnds _ λ a.
-    need-is (b ∷ s) (atLeast (fixed k) (x .length)) badLength _ λ e.
-    need-is (b ∷ s) (leb n (length t)) fileEnds _ λ l.
-    need-is (b ∷ s) (withinLimits (x .w) (x .h)) outsideLimits _ λ f.
-    need-is (b ∷ s) (isCode (x .code)) badCode _ λ g.
+    need-case (Is (b ∷ s)) (leb (size (kinds k)) (length s)) fileEnds _ (λ _. tt) λ a.
+    need-case (Is (b ∷ s)) (atLeast (fixed k) (x .length)) badLength _ (λ _. tt) λ e.
+    need-case (Is (b ∷ s)) (leb n (length t)) fileEnds _ (λ _. tt) λ l.
+    need-case (Is (b ∷ s)) (withinLimits (x .w) (x .h)) outsideLimits _ (λ _. tt) λ f.
+    need-case (Is (b ∷ s)) (isCode (x .code)) badCode _ (λ _. tt) λ g.
     let w = wrote (leb-true (size (kinds k)) (length s) a) in
     let u = at-least (fixed k) (x .length) e in
     let i = box-true (x .w) (x .h) f in
@@ -303,9 +298,9 @@ unfolding specialAt bytesOf twos
 special-is k s lo hi hs =
     let z = valueOf (lengthKind k) (number k s) in
     let n = natAbs z in
-    need-is ((239 + k) ∷ s) (leb k (length s)) fileEnds _ λ a.
-    need-is ((239 + k) ∷ s) (atLeast 0 z) badLength _ λ e.
-    need-is ((239 + k) ∷ s) (leb n (length (drop k s))) fileEnds _ λ l.
+    need-case (Is ((239 + k) ∷ s)) (leb k (length s)) fileEnds _ (λ _. tt) λ a.
+    need-case (Is ((239 + k) ∷ s)) (atLeast 0 z) badLength _ (λ _. tt) λ e.
+    need-case (Is ((239 + k) ∷ s)) (leb n (length (drop k s))) fileEnds _ (λ _. tt) λ l.
     let i = length-is (eqb k 4) n (at-least 0 z e .0) in
     let m = length-take-le n (drop k s) (leb-true n (length (drop k s)) l) in
     record {
@@ -322,27 +317,22 @@ special-is k s lo hi hs =
 numeric-is : (s : List ℕ) → Is (244 ∷ s) (numericAt s)
 unfolding numericAt bytesOf
 numeric-is s =
-    need-is (244 ∷ s) (leb 4 (length s)) fileEnds _ λ a.
+    need-case (Is (244 ∷ s)) (leb 4 (length s)) fileEnds _ (λ _. tt) λ a.
     record { whole = rw (take-append-drop 4 s); ok = length-take-le 4 s (leb-true 4 (length s) a) }
 
 -- A piece that is found is what stands there.
 pub step-is : (s : List ℕ) → Bytes s → Is s (step s)
 unfolding step bytesOf
 step-is [] h = tt
-step-is (b ∷ s) h = go (ltb b 240) refl (ltb b 244) refl (eqb b 244) refl (eqb b 245) refl (eqb b 246) refl
-  where
-    go : (p : Bool) → ltb b 240 ≡ p → (q : Bool) → ltb b 244 ≡ q → (x : Bool) → eqb b 244 ≡ x → (y : Bool) → eqb b 245 ≡ y → (z : Bool) → eqb b 246 ≡ z
-        → Is (b ∷ s) (cond p (packetAt b (formOf b) (header (formOf b) b (readFields (kinds (formOf b)) s)) s)
-        (cond q (specialAt (b - 239) (valueOf (lengthKind (b - 239)) (number (b - 239) s)) s)
-        (cond x (numericAt s) (cond y (ok (last s)) (cond z (ok (piece noop s)) (fault noPiece))))))
-    go true e q f x i y j z k =
-        packet-is b s (formOf b) (ltb-true b 240 e) (form-bits b) (readFields (kinds (formOf b)) s) (fields-read (kinds (formOf b)) s (h .1))
-    go false e true f x i y j z k =
-        let l = ltb-false b 240 e in
-        let m = ltb-true b 244 f in
-        let n : 239 + (b - 239) ≡ b = omega arith in
-        subst (λ (c : ℕ). Is (c ∷ s) (specialAt (b - 239) (valueOf (lengthKind (b - 239)) (number (b - 239) s)) s)) n (special-is (b - 239) s (omega arith) (omega arith) (h .1))
-    go false e false f true i y j z k = rw (eqb-true b 244 i) (numeric-is s)
-    go false e false f false i true j z k = rw (eqb-true b 245 j) refl
-    go false e false f false i false j true k = record { whole = rw (eqb-true b 246 k) refl; ok = tt }
-    go false e false f false i false j false k = tt
+step-is (b ∷ s) h =
+    let P = Is (b ∷ s) in
+    cond-case P (ltb b 240) _ _
+    (λ e. packet-is b s (formOf b) (ltb-true b 240 e) (form-bits b) (readFields (kinds (formOf b)) s) (fields-read (kinds (formOf b)) s (h .1))) λ e.
+    let l = ltb-false b 240 e in
+    cond-case P (ltb b 244) _ _
+    (λ e. let m = ltb-true b 244 e in
+    let n : 239 + (b - 239) ≡ b = omega arith in
+    subst (λ (c : ℕ). Is (c ∷ s) (specialAt (b - 239) (valueOf (lengthKind (b - 239)) (number (b - 239) s)) s)) n (special-is (b - 239) s (omega arith) (omega arith) (h .1))) λ e.
+    cond-case P (eqb b 244) _ _ (λ e. rw (eqb-true b 244 e) (numeric-is s)) λ e.
+    cond-case P (eqb b 245) _ _ (λ e. rw (eqb-true b 245 e) refl) λ e.
+    cond-case P (eqb b 246) _ _ (λ e. record { whole = rw (eqb-true b 246 e) refl; ok = tt }) λ e. tt

@@ -6,7 +6,7 @@ use lib.IntN.{ℤ, pos, negsuc}
 use lib.ListN.{length, replicate}
 use Rattle.format.specs.Limits.{inLimits, withinLimits, isCode}
 use Rattle.format.specs.Lists.{all, elem, same}
-use Rattle.format.specs.Refusals.{Told, says, refuses, numberAndPlace, told, lent, answers, _>>=_, need, answerAt}
+use Rattle.format.specs.Refusals.{Told, says, refuses, told, lent, answers, _>>=_, need, answerAt}
 use Rattle.format.specs.Numbers.{bytes, held, twos, allHeld, fieldBytes}
 use Rattle.format.specs.Decoding.{number, valueOf, readFields, Got, value, ends, mark, digits, zeros, shift, second, decode}
 use Rattle.format.specs.Measures.{Scaled, scaled, Measures, toScaled, wholePixels, sameScaled}
@@ -75,7 +75,7 @@ packReply (refuses n place) = refusal n place
 
 -- The definitions' reply. All that they say computes where `reply` is unfolded.
 unfoldable pub reply : Question → Reply
-unfolding readReply checkReply count drawReply packReply inLimits withinLimits isCode all elem same numberAndPlace told answers _>>=_ need answerAt bytes number held twos valueOf allHeld fieldBytes readFields toScaled wholePixels sameScaled flag fits measures bytesOf nybbles hex zerosF zerosOf large encode digits zeros shift second decode written writings string repeats rows sum sent joined picture bitsOf bits packets codes numberOf runAt repeatAt itemOf afterRun afterRepeat afterItem finish turn walk reading bitsRead noneRead items atLeast formOf rasterAt packetAt specialAt numericAt step checked orElse prepend isNil ending next onwardF onward preambleAt begin verdict check drawnBy pixelsOf find drawn drawFrom draw mixed above kept placed lastOf strung grow runs before listed counts nybbleCount leastOf fewest chosen halves byteOf bitBytes rasterOf firstBlack inForm holds firstForm allPixels packetFor packed pack lent drawAnswer drawBuffer packAnswer packBuffer
+unfolding readReply checkReply count drawReply packReply inLimits withinLimits isCode all elem same told answers _>>=_ need answerAt bytes number held twos valueOf allHeld fieldBytes readFields toScaled wholePixels sameScaled flag fits measures bytesOf nybbles hex zerosF zerosOf large encode digits zeros shift second decode written writings string repeats rows sum sent joined picture bitsOf bits packets codes numberOf runAt repeatAt itemOf afterRun afterRepeat afterItem finish turn walk reading bitsRead noneRead items atLeast formOf rasterAt packetAt specialAt numericAt step checked orElse prepend isNil ending next onwardF onward preambleAt begin verdict check drawnBy pixelsOf find drawn drawFrom draw mixed above kept placed lastOf strung grow runs before listed counts nybbleCount leastOf fewest chosen halves byteOf bitBytes rasterOf firstBlack inForm holds firstForm allPixels packetFor packed pack lent drawAnswer drawBuffer packAnswer packBuffer
 reply (reads f xs) = readReply (decode f xs)
 reply (writes f n) = list (encode f n)
 reply (size f w h b) = it (nybbleCount (counts (rows w h b)) f)

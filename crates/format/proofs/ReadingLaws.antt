@@ -54,11 +54,11 @@ pub walk-none : (f w h : ℕ) (s : State) (xs : List ℕ) → s .row < h → wal
 unfolding walk
 walk-none f w h s xs l = rw (lt-leb h (s .row) l) refl
 
-nybs-rest : (xs ys : List ℕ) → Nybbles (xs ++ ys) → Nybbles ys
+pub nybs-rest : (xs ys : List ℕ) → Nybbles (xs ++ ys) → Nybbles ys
 nybs-rest [] ys n = n
 nybs-rest (x ∷ xs) ys n = nybs-rest xs ys (n .1)
 
-free-none : (rep : ℕ) → 1 + length (had rep) ≤ 1 → rep ≡ 0
+pub free-none : (rep : ℕ) → 1 + length (had rep) ≤ 1 → rep ≡ 0
 free-none zero l = refl
 free-none (suc rep) l = absurd (omega arith)
 

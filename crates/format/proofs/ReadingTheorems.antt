@@ -44,7 +44,7 @@ some f n hf p = go (encode f n) (decode-encode f n [] hf p)
     go [] e = absurd (let z : _≡_ {A = ℕ} 0 1 = cc in omega arith)
     go (x ∷ xs) e = omega arith
 
-enough : (f : ℕ) (is : List Item) → f ≤ 13 → AllNumbers is → length is ≤ length (writings f is)
+pub enough : (f : ℕ) (is : List Item) → f ≤ 13 → AllNumbers is → length is ≤ length (writings f is)
 unfolding writings written
 enough f [] hf nu = omega arith
 enough f (run n ∷ is) hf nu = omega (arith, enough f is hf (nu .1), some f n hf (nu .0), length-append (encode f n) (writings f is))

@@ -2,18 +2,18 @@
 use Prim.Native.Nat.{ℕ, zero, suc, _+_, _-_, _<_}
 use mathlib.Core.Path.{_≡_, refl}
 use mathlib.Core.List.{List, [], _∷_, _++_}
-use mathlib.Core.Bool.{Bool, true, false, cond}
 use native.Mathlib.Omega.{arith}
 use lib.Dec.{ltb, leb, eqb}
 use lib.IntN.{ℤ, natAbs}
 use lib.ListN.{length, drop, length-drop}
 use Rattle.format.specs.Limits.{withinLimits, isCode}
-use Rattle.format.specs.Refusals.{Refusal, fileEnds, badLength, outsideLimits, badCode, Answer, Result, ok, fault, _>>=_, need}
+use Rattle.format.specs.Refusals.{Refusal, fileEnds, badLength, outsideLimits, badCode, Answer, Result, ok, fault}
 use Rattle.format.specs.Numbers.{size}
 use Rattle.format.specs.Pieces.{Preamble, Form, kinds, fixed, Piece, bytesOf, lengthKind}
 use Rattle.format.specs.Decoding.{number, valueOf, readFields}
 use Rattle.format.specs.Cut.{packets, codes, Parts}
 use Rattle.format.specs.Verdict.{Front, piece, last, atLeast, formOf, Header, header, rasterAt, packetAt, specialAt, numericAt, step, next, onwardF, onward}
+use Rattle.format.proofs.RefusalLaws.{need-case, cond-case}
 
 -- The rest behind a piece is shorter than s.
 pub data Less (s : List ℕ) : Result Front → Type 0 where
@@ -24,45 +24,42 @@ pub data Less (s : List ℕ) : Result Front → Type 0 where
 pub less-rest : {s : List ℕ} {p : Piece} {r : List ℕ} → Less s (ok (piece p r)) → length r < length s
 less-rest (to h) = h
 
-less-cond : {s : List ℕ} (b : Bool) {x y : Result Front} → Less s x → Less s y → Less s (cond b x y)
-less-cond true h k = h
-less-cond false h k = k
-
-less-need : (s : List ℕ) (b : Bool) (x : Refusal) (f : Unit {0} → Result Front) → Less s (f tt) → Less s (need b x >>= f)
-unfolding need _>>=_
-less-need s true x f h = h
-less-need s false x f h = none
-
 drop-less : (b m n : ℕ) (s : List ℕ) → length (drop n (drop m s)) < length (b ∷ s)
 drop-less b m n s = rw (length-drop, length-drop) (omega arith)
 
 packet-less : (b : ℕ) (k : Form) (x : Header) (s : List ℕ) → Less (b ∷ s) (packetAt b k x s)
 unfolding packetAt rasterAt
 packet-less b k x s =
-    less-need (b ∷ s) (leb (size (kinds k)) (length s)) fileEnds _
-    (less-need (b ∷ s) (atLeast (fixed k) (x .length)) badLength _
-    (less-need (b ∷ s) (leb (natAbs (x .length) - fixed k) (length (drop (size (kinds k)) s))) fileEnds _
-    (less-need (b ∷ s) (withinLimits (x .w) (x .h)) outsideLimits _
-    (less-need (b ∷ s) (isCode (x .code)) badCode _ (to (drop-less b (size (kinds k)) (natAbs (x .length) - fixed k) s))))))
+    let P = Less (b ∷ s) in
+    let n = natAbs (x .length) - fixed k in
+    need-case P (leb (size (kinds k)) (length s)) fileEnds _ (λ _. none) λ _.
+    need-case P (atLeast (fixed k) (x .length)) badLength _ (λ _. none) λ _.
+    need-case P (leb n (length (drop (size (kinds k)) s))) fileEnds _ (λ _. none) λ _.
+    need-case P (withinLimits (x .w) (x .h)) outsideLimits _ (λ _. none) λ _.
+    need-case P (isCode (x .code)) badCode _ (λ _. none) λ _. to (drop-less b (size (kinds k)) n s)
 
 special-less : (b k : ℕ) (z : ℤ) (s : List ℕ) → Less (b ∷ s) (specialAt k z s)
 unfolding specialAt
 special-less b k z s =
-    less-need (b ∷ s) (leb k (length s)) fileEnds _
-    (less-need (b ∷ s) (atLeast 0 z) badLength _
-    (less-need (b ∷ s) (leb (natAbs z) (length (drop k s))) fileEnds _ (to (drop-less b k (natAbs z) s))))
+    let P = Less (b ∷ s) in
+    need-case P (leb k (length s)) fileEnds _ (λ _. none) λ _.
+    need-case P (atLeast 0 z) badLength _ (λ _. none) λ _.
+    need-case P (leb (natAbs z) (length (drop k s))) fileEnds _ (λ _. none) λ _. to (drop-less b k (natAbs z) s)
 
 numeric-less : (b : ℕ) (s : List ℕ) → Less (b ∷ s) (numericAt s)
 unfolding numericAt
-numeric-less b s = less-need (b ∷ s) (leb 4 (length s)) fileEnds _ (to (drop-less b 0 4 s))
+numeric-less b s = need-case (Less (b ∷ s)) (leb 4 (length s)) fileEnds _ (λ _. none) λ _. to (drop-less b 0 4 s)
 
 pub step-less : (s : List ℕ) → Less s (step s)
 unfolding step
 step-less [] = none
 step-less (b ∷ s) =
-    less-cond (ltb b 240) (packet-less b (formOf b) (header (formOf b) b (readFields (kinds (formOf b)) s)) s)
-    (less-cond (ltb b 244) (special-less b (b - 239) (valueOf (lengthKind (b - 239)) (number (b - 239) s)) s)
-    (less-cond (eqb b 244) (numeric-less b s) (less-cond (eqb b 245) ended (less-cond (eqb b 246) (to (omega arith)) none))))
+    let P = Less (b ∷ s) in
+    cond-case P (ltb b 240) _ _ (λ _. packet-less b (formOf b) (header (formOf b) b (readFields (kinds (formOf b)) s)) s) λ _.
+    cond-case P (ltb b 244) _ _ (λ _. special-less b (b - 239) (valueOf (lengthKind (b - 239)) (number (b - 239) s)) s) λ _.
+    cond-case P (eqb b 244) _ _ (λ _. numeric-less b s) λ _.
+    cond-case P (eqb b 245) _ _ (λ _. ended) λ _.
+    cond-case P (eqb b 246) _ _ (λ _. to (omega arith)) λ _. none
 
 -- ---- the equation of `onward`, without a bound
 

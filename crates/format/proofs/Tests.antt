@@ -1,6 +1,7 @@
 -- Small laws of tests and of lists that the other files share. Assumes nothing.
 use Prim.Native.Nat.{ℕ, _≤_, _<_}
 use mathlib.Core.Path.{_≡_, refl, sym}
+use mathlib.Core.Logic.{_⊎_, inl, inr}
 use mathlib.Core.Bool.{Bool, true, false, _&&_, _||_}
 use native.Mathlib.Nat.{lt-of-not-le}
 use native.Mathlib.Decide.{decLe}
@@ -24,6 +25,16 @@ and-true false b e = absurd (let z : _≡_ {A = ℕ} 0 1 = cc in omega arith)
 
 pub true-and : {a b : Bool} → a ≡ true → b ≡ true → a && b ≡ true
 true-and p q = rw (p, q) refl
+
+-- One of two tests fails, taken apart and put together.
+pub and-false : (a b : Bool) → a && b ≡ false → (a ≡ false) ⊎ (b ≡ false)
+and-false true b e = inr e
+and-false false b e = inl refl
+
+pub false-and : (a b : Bool) → (a ≡ false) ⊎ (b ≡ false) → a && b ≡ false
+false-and a b (inl e) = rw e refl
+false-and true b (inr e) = e
+false-and false b (inr e) = refl
 
 -- None of two tests holds.
 pub or-false : (a b : Bool) → a || b ≡ false → (a ≡ false) × (b ≡ false)

@@ -50,6 +50,10 @@ pub record Parts : Type 0 where
   pub pieces : List Piece
   pub pad : ℕ
 
+-- The number of characters of a font: that of its packets.
+abbrev pub chars : Parts → ℕ
+chars x = length (packets (x .pieces))
+
 -- The bytes are, joined, a preamble, pieces, and the ending: 245, then only 246, any number.
 unfoldable pub join : Parts → List ℕ
 join x = preambleBytes (x .preamble) ++ (flat (x .pieces) ++ 245 ∷ replicate (x .pad) 246)

@@ -1,14 +1,15 @@
 -- What a font's refusal means (01, Numbers given back, rows 1 to 15): the case of its row holds at its place, and everything before
--- that place is in order. Of the reader only the values of a packet's fields and the state within a raster are used.
+-- that place is in order. Of the reader only this is used: a packet's form and the values of its fixed fields, the value of a command's
+-- length; the state within a raster and where an item leads.
 -- Assumes nothing: these are definitions.
 use Prim.Native.Nat.{ℕ, _+_, _-_, _*_, _/_, _%_, _≤_, _<_}
 use mathlib.Core.Path.{_≡_}
 use mathlib.Core.List.{List, [], _∷_, _++_}
 use mathlib.Core.Logic.{_⊎_}
 use mathlib.Core.Bool.{true, false}
-use lib.IntN.{ℤ, pos, negsuc, natAbs}
+use lib.IntN.{pos}
 use lib.ListN.{length, take, drop}
-use Rattle.format.specs.Limits.{most, withinLimits, isCode}
+use Rattle.format.specs.Limits.{most, inLimits, withinLimits, isCode}
 use Rattle.format.specs.Lists.{all, elem}
 use Rattle.format.specs.Refusals.{Refusal, tooLong, noPreamble, wrongId, fileEnds, noPiece, badLength, outsideLimits, badCode, codeTwice, rasterEnds, tooMany, secondRepeat, leftOver, badEnding, noPacket, ok}
 use Rattle.format.specs.Numbers.{size}
@@ -18,7 +19,7 @@ use Rattle.format.specs.Rasters.{Item, run, fourteen, fifteen, Number, w
 use Rattle.format.specs.Cut.{flat, AllOk, packets, AllFilled, codes, Distinct}
 use Rattle.format.specs.Decoding.{number, valueOf, readFields}
 use Rattle.format.specs.Reading.{State, start, pixelsLeft, afterItem}
-use Rattle.format.specs.Verdict.{formOf, Header, header}
+use Rattle.format.specs.Verdict.{atLeast, formOf, Header, header}
 
 -- ---- a packet at the front
 
@@ -33,6 +34,19 @@ pub record Stands (b : ℕ) (t raster : List ℕ) : Type 0 where
   pub says : said b t .length ≡ pos (fixed (formOf b) + length raster)
   pub inside : size (kinds (formOf b)) + length raster ≤ length t
   pub bytes : raster ≡ take (length raster) (drop (size (kinds (formOf b))) t)
+
+-- Besides, w and h are within the limits,
+pub record Sized (b : ℕ) (t raster : List ℕ) (w h : ℕ) : Type 0 where
+  pub stands : Stands b t raster
+  pub width : said b t .w ≡ pos w
+  pub height : said b t .h ≡ pos h
+  pub limits : inLimits w h ≡ true
+
+-- and the code is from 0 to 255.
+pub record Coded (b : ℕ) (t raster : List ℕ) (w h c : ℕ) : Type 0 where
+  pub sized : Sized b t raster w h
+  pub code : said b t .code ≡ pos c
+  pub range : isCode (pos c) ≡ true
 
 -- ---- 4: file ends inside a piece, or where a piece must begin
 
@@ -51,14 +65,11 @@ pub data Ends : List ℕ → Type 0 where
 
 -- ---- 6: command length negative; packet length negative or below its own fixed fields
 
--- z is below m.
-abbrev pub Below : ℕ → ℤ → Type 0
-Below m (pos n) = n < m
-Below m (negsuc n) = Unit {0}
-
 pub data BadLength : List ℕ → Type 0 where
-  ofCommand : {b : ℕ} {t : List ℕ} (k : ℕ) → 1 ≤ k → k ≤ 4 → b ≡ 239 + k → k ≤ length t → Below 0 (valueOf (lengthKind k) (number k t)) → BadLength (b ∷ t)
-  ofPacket : {b : ℕ} {t : List ℕ} → b < 240 → size (kinds (formOf b)) ≤ length t → Below (fixed (formOf b)) (said b t .length) → BadLength (b ∷ t)
+  -- a command's is negative
+  ofCommand : {b : ℕ} {t : List ℕ} (k : ℕ) → 1 ≤ k → k ≤ 4 → b ≡ 239 + k → k ≤ length t → atLeast 0 (valueOf (lengthKind k) (number k t)) ≡ false → BadLength (b ∷ t)
+  -- a packet's is negative, or below its own fixed fields
+  ofPacket : {b : ℕ} {t : List ℕ} → b < 240 → size (kinds (formOf b)) ≤ length t → atLeast (fixed (formOf b)) (said b t .length) ≡ false → BadLength (b ∷ t)
 
 -- ---- 10 to 13: the raster
 
@@ -80,54 +91,72 @@ pub data Leads (f w h : ℕ) : State → List ℕ → State → List ℕ → Typ
   more : {s t u : State} {xs rest ys : List ℕ} (i : Item) → s .row < h → First f s xs i rest → afterItem w h i s ≡ ok t
       → Leads f w h t rest u ys → Leads f w h s xs u ys
 
--- 10: the nybbles end while one is needed. They are the beginning of an item that may stand there, and not all of it.
+-- The nybbles end while one is needed: they are the beginning of an item that may stand there, and not all of it.
 pub record Unfinished (f : ℕ) (s : State) (xs : List ℕ) : Type 0 where
   pub item : Item
   pub lacking : List ℕ
   pub first : First f s (xs ++ lacking) item []
   pub some : 0 < length lacking
 
--- 11: a run longer than the pixels left, or a repeat larger than the rows after the current one.
+-- More than there is room for: the pixels left for a run, the rows after the current one for a repeat.
 abbrev pub Over : ℕ → ℕ → Item → State → Type 0
 Over w h (run n) s = pixelsLeft w h s < n
 Over w h (fourteen n) s = h - s .row - 1 < n
 Over w h fifteen s = h - s .row - 1 < 1
 
--- 12: a 14 or 15 in a row that has had one, or where the number behind a 14 must begin.
+-- A 14 or 15 in a row that has had one, or where the number behind a 14 must begin.
 pub data Second (s : State) : List ℕ → Type 0 where
   inRow : {x : ℕ} {xs : List ℕ} → 14 ≤ x → 0 < s .repeat → Second s (x ∷ xs)
   forNumber : {x : ℕ} {xs : List ℕ} → 14 ≤ x → Second s (14 ∷ x ∷ xs)
 
--- Where the items in order end, the nybbles xs are at fault.
+-- Where the items in order end, the nybbles xs are at fault: over each case its row.
 pub data Fault (f w h : ℕ) (s : State) (xs : List ℕ) : Refusal → Type 0 where
-  ends : s .row < h → Unfinished f s xs → Fault f w h s xs rasterEnds
+  -- 10: raster data ends while a nybble is needed
+  unfinished : s .row < h → Unfinished f s xs → Fault f w h s xs rasterEnds
+  -- 11: a run longer than the pixels left, or a repeat larger than the rows after the current one
   over : (i : Item) (rest : List ℕ) → s .row < h → First f s xs i rest → Over w h i s → Fault f w h s xs tooMany
-  second : s .row < h → Second s xs → Fault f w h s xs secondRepeat
+  -- 12: a second repeat for one row
+  another : s .row < h → Second s xs → Fault f w h s xs secondRepeat
+  -- 13: raster bytes left over, or spare nybble not zero
   left : h ≤ s .row → (xs ≡ [] → ⊥) → (xs ≡ 0 ∷ [] → ⊥) → Fault f w h s xs leftOver
 
 -- The raster bytes are at fault.
 pub data RasterFault (f w h : ℕ) (bytes : List ℕ) : Refusal → Type 0 where
-  inRuns : {x : Refusal} (s : State) (xs : List ℕ) → 0 < w → f ≤ 13 → Leads f w h start (nybbles bytes) s xs → Fault f w h s xs x → RasterFault f w h bytes x
+  -- 10 to 13: at a nybble, behind items in order
+  inItems : {x : Refusal} (s : State) (xs : List ℕ) → 0 < w → f ≤ 13 → Leads f w h start (nybbles bytes) s xs → Fault f w h s xs x → RasterFault f w h bytes x
+  -- 10: raster data ends while a bit is needed
   fewBytes : 0 < w → f ≡ 14 → length bytes < bytesOfBits (w * h) → RasterFault f w h bytes rasterEnds
+  -- 13: raster bytes left over
   manyBytes : 0 < w → f ≡ 14 → bytesOfBits (w * h) < length bytes → RasterFault f w h bytes leftOver
+  -- 13: spare bits not zero
   spareBits : 0 < w → f ≡ 14 → length bytes ≡ bytesOfBits (w * h) → all 0 (drop (w * h) (bits bytes)) ≡ false → RasterFault f w h bytes leftOver
-  noneWanted : w ≡ 0 → 0 < length bytes → RasterFault f w h bytes leftOver
+  -- 13: raster bytes left over, where w = h = 0
+  noneWanted : w ≡ 0 → h ≡ 0 → 0 < length bytes → RasterFault f w h bytes leftOver
 
 -- ---- the piece at a place
 
--- The bytes s from a place on, behind packets with these codes, are at fault.
+-- The bytes s from a place on, behind packets with these codes, are at fault. A packet's 7, 8, 9 and raster faults come in that order,
+-- and at the 245 comes 15 before 14.
 pub data PieceFault (place : ℕ) (seen : List ℕ) : List ℕ → Refusal → Type 0 where
-  ends : {s : List ℕ} → Ends s → PieceFault place seen s fileEnds
+  -- 4: file ends inside a piece, or where a piece must begin
+  fileEndsHere : {s : List ℕ} → Ends s → PieceFault place seen s fileEnds
+  -- 5: byte 247 to 255 where a command or packet begins
   noneSuch : {b : ℕ} {t : List ℕ} → 247 ≤ b → PieceFault place seen (b ∷ t) noPiece
+  -- 6: command length negative; packet length negative or below its own fixed fields
   wrongLength : {s : List ℕ} → BadLength s → PieceFault place seen s badLength
-  limits : {b : ℕ} {t : List ℕ} (raster : List ℕ) → Stands b t raster → withinLimits (said b t .w) (said b t .h) ≡ false → PieceFault place seen (b ∷ t) outsideLimits
-  code : {b : ℕ} {t : List ℕ} (raster : List ℕ) → Stands b t raster → isCode (said b t .code) ≡ false → PieceFault place seen (b ∷ t) badCode
-  twice : {b : ℕ} {t : List ℕ} (raster : List ℕ) (c : ℕ) → Stands b t raster → said b t .code ≡ pos c → elem c seen ≡ true → PieceFault place seen (b ∷ t) codeTwice
-  raster : {b : ℕ} {t : List ℕ} {x : Refusal} (raster : List ℕ) (w h : ℕ) → Stands b t raster → said b t .w ≡ pos w → said b t .h ≡ pos h
-      → RasterFault (b / 16) w h raster x → PieceFault place seen (b ∷ t) x
-  -- 14 and 15, at the 245
-  ending : {t : List ℕ} → (all 246 t ≡ false) ⊎ ((place + 1 + length t) % 4 ≡ 0 → ⊥) → PieceFault place seen (245 ∷ t) badEnding
+  -- 7: w, h outside the limits
+  limits : {b : ℕ} {t raster : List ℕ} → Stands b t raster → withinLimits (said b t .w) (said b t .h) ≡ false → PieceFault place seen (b ∷ t) outsideLimits
+  -- 8: code in a packet outside 0 to 255
+  code : {b w h : ℕ} {t raster : List ℕ} → Sized b t raster w h → isCode (said b t .code) ≡ false → PieceFault place seen (b ∷ t) badCode
+  -- 9: code seen in an earlier packet
+  twice : {b w h c : ℕ} {t raster : List ℕ} → Coded b t raster w h c → elem c seen ≡ true → PieceFault place seen (b ∷ t) codeTwice
+  -- 10 to 13: the raster
+  badRaster : {b w h c : ℕ} {t raster : List ℕ} {x : Refusal} → Coded b t raster w h c → elem c seen ≡ false → RasterFault (b / 16) w h raster x
+      → PieceFault place seen (b ∷ t) x
+  -- 15: 245 reached with no packet before it
   noneBefore : {t : List ℕ} → seen ≡ [] → PieceFault place seen (245 ∷ t) noPacket
+  -- 14: after 245 a byte other than 246, or file length no multiple of four
+  badEnd : {t : List ℕ} → (seen ≡ [] → ⊥) → (all 246 t ≡ false) ⊎ ((place + 1 + length t) % 4 ≡ 0 → ⊥) → PieceFault place seen (245 ∷ t) badEnding
 
 -- ---- the font
 
@@ -150,11 +179,17 @@ pub record Blames (s : List ℕ) (x : Refusal) (place : ℕ) : Type 0 where
   pub distinct : Distinct (codes (packets before))
   pub fault : PieceFault place (codes (packets before)) rest x
 
--- What each refusal of a font means.
+-- What each refusal of a font means: over each case its row.
 pub data Means (s : List ℕ) : Refusal → ℕ → Type 0 where
-  long : most < length s → Means s tooLong 0
+  -- 1: font longer than 65,536 bytes
+  overLong : most < length s → Means s tooLong 0
+  -- 2: font empty
   empty : s ≡ [] → Means s noPreamble 0
-  first : {b : ℕ} {t : List ℕ} → s ≡ b ∷ t → length s ≤ most → (b ≡ 247 → ⊥) → Means s noPreamble 0
-  id : {b : ℕ} {t : List ℕ} → s ≡ 247 ∷ b ∷ t → length s ≤ most → (b ≡ 89 → ⊥) → Means s wrongId 0
-  short : length s ≤ most → PreambleEnds s → Means s fileEnds 0
-  piece : {x : Refusal} {place : ℕ} → Blames s x place → Means s x place
+  -- 2: first byte not 247
+  firstByte : {b : ℕ} {t : List ℕ} → s ≡ b ∷ t → length s ≤ most → (b ≡ 247 → ⊥) → Means s noPreamble 0
+  -- 3: second byte present and not 89
+  secondByte : {b : ℕ} {t : List ℕ} → s ≡ 247 ∷ b ∷ t → length s ≤ most → (b ≡ 89 → ⊥) → Means s wrongId 0
+  -- 4: file ends inside a piece, which is the preamble
+  cutShort : length s ≤ most → PreambleEnds s → Means s fileEnds 0
+  -- 4 to 15: the piece at a place
+  atPiece : {x : Refusal} {place : ℕ} → Blames s x place → Means s x place

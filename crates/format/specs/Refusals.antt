@@ -54,7 +54,7 @@ pub data Answer (A : Type 0) : Type 0 where
   refused : Refusal → ℕ → Answer A
 
 -- The number and the place of each row; `at` is the start of the piece at fault, for 14 and 15 the 245.
-unfoldable pub numberAndPlace : Refusal → ℕ → ℕ × ℕ
+abbrev pub numberAndPlace : Refusal → ℕ → ℕ × ℕ
 numberAndPlace tooLong at = (1, 0)
 numberAndPlace noPreamble at = (2, 0)
 numberAndPlace wrongId at = (3, 0)

@@ -14,7 +14,7 @@ use Rattle.format.specs.Decoding.{number, valueOf, readFields}
 use Rattle.format.specs.Measures.{pixels, scaled}
 use Rattle.format.specs.Pieces.{Preamble, preambleKinds, Form, short, extended, long, Escapement, kinds, fixed, Packet, Piece, special, numeric, noop, packet, lengthKind, bytesOf}
 use Rattle.format.specs.Rasters.{Item}
-use Rattle.format.specs.Cut.{packets, codes, Parts}
+use Rattle.format.specs.Cut.{packets, codes, Parts, chars}
 use Rattle.format.specs.Reading.{items}
 
 -- What stands at the front of bytes: a piece and the rest, or 245 and the rest.
@@ -182,4 +182,4 @@ verdict s = cond (ltb most (length s)) (refused tooLong 0) (begin s)
 
 -- A checked font answers with its number of characters.
 unfoldable pub check : List ℕ → Answer ℕ
-check s = answers (λ x. length (packets (x .pieces))) (verdict s)
+check s = answers chars (verdict s)
