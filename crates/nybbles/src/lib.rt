@@ -4,6 +4,7 @@ ghost use mathlib.Core.Path.{_≡_};
 ghost use lib.ListN.{length};
 ghost use Rattle.nybbles.specs.Nybble.{NybbleAt};
 
+// A byte as a number.
 fn wide(x: u8) -> usize
     ensures { λ r. ⌜ r ≡ x ⌝ }
 {
