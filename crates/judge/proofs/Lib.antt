@@ -1,0 +1,4 @@
+pub mod TurnLaws
+pub mod LeftLaws
+pub mod BitLaws
+pub mod WholeLaws
