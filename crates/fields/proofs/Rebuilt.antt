@@ -21,7 +21,7 @@ pub values-at : (n k : ℕ) → n ≡ k → 256 ^ n ≡ 256 ^ k
 values-at n k e = ap (λ (x : ℕ). 256 ^ x) e
 
 -- A greater width has no fewer values.
-values-most : (i j : ℕ) → i ≤ j → 256 ^ i ≤ 256 ^ j
+pub values-most : (i j : ℕ) → i ≤ j → 256 ^ i ≤ 256 ^ j
 values-most i j h = pow-le-pow-right {n = 256} (omega arith) {i = i} {j = j} h
 
 -- ---- a number of k bytes

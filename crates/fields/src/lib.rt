@@ -6,6 +6,10 @@ ghost use Rattle.format.specs.Numbers.{signed};
 ghost use Rattle.format.specs.Decoding.{number, valueOf};
 ghost use Rattle.fields.specs.Field.{NumberAt};
 
+// From here on a number of four bytes stands for a negative one.
+pub const NEGATIVE: u64 = 2147483648;
+
+// A byte as a number.
 fn wide(x: u8) -> u64
     ensures { λ r. ⌜ (r ≡ x) × (r < 256) ⌝ }
 {
@@ -13,7 +17,7 @@ fn wide(x: u8) -> u64
 }
 
 // How many values k bytes have.
-fn values_of(k: usize) -> u64
+pub fn values_of(k: usize) -> u64
     requires { ⌜ (1 ≤ k) × (k ≤ 4) ⌝ }
     ensures { λ r. ⌜ r ≡ 256 ^ k ⌝ }
 {

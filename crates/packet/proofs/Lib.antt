@@ -1,0 +1,4 @@
+pub mod LimitLaws
+pub mod FieldsLaws
+pub mod JudgedLaws
+pub mod OutlinedLaws
