@@ -1,0 +1,5 @@
+pub mod TurnLaws
+pub mod GoingLaws
+pub mod EndingLaws
+pub mod BeginLaws
+pub mod Promises
