@@ -1,0 +1,47 @@
+// The checker run on outside cases: standard input holds fonts, each behind its length in four bytes; a line is printed for each,
+// `ok CHARS` or `refuse NUMBER PLACE`.
+use font::Checked;
+use libc::STDIN_FILENO;
+use libc::STDOUT_FILENO;
+
+// The line of an answer.
+fn print_line(checked: Checked) {
+    match checked {
+        Checked::Chars(n) => {
+            io::write_all(STDOUT_FILENO, b"ok ");
+            io::print_decimal(STDOUT_FILENO, n as u64);
+        }
+        Checked::Refused(x, at) => {
+            io::write_all(STDOUT_FILENO, b"refuse ");
+            io::print_decimal(STDOUT_FILENO, x.0 as u64);
+            io::write_all(STDOUT_FILENO, b" ");
+            io::print_decimal(STDOUT_FILENO, at as u64);
+        }
+    }
+    io::write_all(STDOUT_FILENO, b"\n");
+}
+
+// Each font of the cases.
+fn check_each(cases: &[u8]) {
+    let mut at: usize = 0;
+    while at < cases.len() {
+        if cases.len() - at < 4 {
+            return;
+        }
+        let begin = at + 4;
+        let n = fields::number_at(cases, at, 4) as usize;
+        if cases.len() - begin < n {
+            return;
+        }
+        let end = begin + n;
+        print_line(font::check(&cases[begin..end]));
+        at = end;
+    }
+}
+
+// All cases of standard input.
+fn main() {
+    let mut cases = [0u8; 524288];
+    let n = io::read_full(STDIN_FILENO, &mut cases);
+    check_each(&cases[..n]);
+}
