@@ -31,13 +31,6 @@ enum Turn {
     Refused(Refusal),
 }
 
-// A byte as a number.
-fn wide(x: u8) -> usize
-    ensures { λ r. ⌜ (r ≡ x) × (r < 256) ⌝ }
-{
-    x as usize
-}
-
 // A packet's code and the place behind it, or its raster's fault.
 fn as_turn(judged: Judged, code: usize, end: usize) -> Turn
     ensures { λ r. ⌜ r ≡ asTurn judged code end ⌝ }
@@ -167,7 +160,7 @@ fn begin(font: &[u8]) -> Checked
     if n == 2 {
         return Checked::Refused(Refusal::FILE_ENDS, 0);
     }
-    let start = wide(font[2]) + PREAMBLE;
+    let start = byte::wide(font[2]) + PREAMBLE;
     if n < start {
         return Checked::Refused(Refusal::FILE_ENDS, 0);
     }

@@ -1,5 +1,5 @@
 // A raster judged without drawing: that it fills its pixels to the last one, or its first fault.
-ghost use Prim.Native.Nat.{_*_, _^_, _≤_, _<_};
+ghost use Prim.Native.Nat.{_*_, _^_, _≤_};
 ghost use mathlib.Core.Path.{_≡_};
 ghost use mathlib.Core.Bool.{true};
 ghost use lib.ListN.{length};
@@ -93,13 +93,6 @@ fn judge_runs(s: &[u8], f: usize, w: usize, h: usize, black: bool) -> Judged
     finish(s, at)
 }
 
-// A byte as a number.
-fn wide(x: u8) -> usize
-    ensures { λ r. ⌜ (r ≡ x) × (r < 256) ⌝ }
-{
-    x as usize
-}
-
 // How many values k bits have.
 fn values_of(k: usize) -> usize
     requires { ⌜ k ≤ 7 ⌝ }
@@ -120,7 +113,7 @@ fn judge_bits(s: &[u8], n: usize) -> Judged
     if k < s.len() {
         return Judged::Fault(Refusal::LEFT_OVER);
     }
-    let last = wide(s[k - 1]);
+    let last = byte::wide(s[k - 1]);
     if last % values_of(8 * k - n) != 0 {
         return Judged::Fault(Refusal::LEFT_OVER);
     }

@@ -1,21 +1,13 @@
 // The nybbles of a slice.
 ghost use Prim.Native.Nat.{_*_, _<_};
-ghost use mathlib.Core.Path.{_≡_};
 ghost use lib.ListN.{length};
 ghost use Rattle.nybbles.specs.Nybble.{NybbleAt};
-
-// A byte as a number.
-fn wide(x: u8) -> usize
-    ensures { λ r. ⌜ r ≡ x ⌝ }
-{
-    x as usize
-}
 
 // The nybble at i: the high half of byte i / 2, then the low half.
 pub fn nybble(s: &[u8], i: usize) -> usize
     requires { ⌜ i < 2 * length (now s) ⌝ }
     ensures { λ r. ⌜ NybbleAt (now (s .entry)) i r ⌝ }
 {
-    let b = wide(s[i / 2]);
+    let b = byte::wide(s[i / 2]);
     if i % 2 == 0 { b / 16 } else { b % 16 }
 }

@@ -1,5 +1,5 @@
 // The piece at a place of a font.
-ghost use Prim.Native.Nat.{_≤_, _<_};
+ghost use Prim.Native.Nat.{_≤_};
 ghost use mathlib.Core.Path.{_≡_};
 ghost use mathlib.Core.List.{_∷_};
 ghost use lib.ListN.{length, drop};
@@ -9,13 +9,6 @@ ghost use Rattle.format.specs.Verdict.{specialAt, numericAt, step};
 ghost use Rattle.packet.specs.Outlines.{pieceOf};
 use packet::Piece;
 use refusals::Refusal;
-
-// A byte as a number.
-fn wide(x: u8) -> usize
-    ensures { λ r. ⌜ (r ≡ x) × (r < 256) ⌝ }
-{
-    x as usize
-}
 
 // 240 to 243: a length in k bytes, which stand at `at`, then that many bytes, which are stepped over.
 fn special(font: &[u8], at: usize, k: usize) -> Piece
@@ -78,5 +71,5 @@ pub fn piece_at(font: &[u8], at: usize) -> Piece
     if font.len() <= at {
         return Piece::Refused(Refusal::FILE_ENDS);
     }
-    behind(font, at + 1, wide(font[at]))
+    behind(font, at + 1, byte::wide(font[at]))
 }
