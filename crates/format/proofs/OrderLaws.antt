@@ -27,11 +27,6 @@ pub data Reordered {A : Type 0} : List A → List A → Type 0 where
   exchange : {xs : List A} (x y : A) → Reordered (x ∷ y ∷ xs) (y ∷ x ∷ xs)
   again : {xs ys zs : List A} → Reordered xs ys → Reordered ys zs → Reordered xs zs
 
--- Two neighbours anywhere.
-pub neighbours : {A : Type 0} (xs : List A) (x y : A) (ys : List A) → Reordered (xs ++ x ∷ y ∷ ys) (xs ++ y ∷ x ∷ ys)
-neighbours [] x y ys = exchange x y
-neighbours (z ∷ xs) x y ys = keeps z (neighbours xs x y ys)
-
 -- ---- the pieces
 
 ok-reordered : {ps qs : List Piece} → Reordered ps qs → AllOk ps → AllOk qs
@@ -194,14 +189,3 @@ module _ (x : Parts) (qs : List Piece) (o : Reordered (x .pieces) qs) where
   unfolding draw drawFrom
   reordered-drawings k code room =
       rw (reordered-accepted k, cut-verdict (join x) x k, find-reordered code (packets-reordered o) (k .distinct)) refl
-
--- So it is with two neighbouring pieces exchanged.
-module _ (x : Parts) (ps qs : List Piece) (p q : Piece) (is : x .pieces ≡ ps ++ p ∷ q ∷ qs) where
-  exchanging : Reordered (x .pieces) (ps ++ q ∷ p ∷ qs)
-  exchanging = rw is (neighbours ps p q qs)
-
-  pub exchanged : Cut (join x) x → verdict (join (withPieces x (ps ++ q ∷ p ∷ qs))) ≡ gives (withPieces x (ps ++ q ∷ p ∷ qs))
-  exchanged = reordered-accepted x (ps ++ q ∷ p ∷ qs) exchanging
-
-  pub exchanged-count : Cut (join x) x → check (join (withPieces x (ps ++ q ∷ p ∷ qs))) ≡ check (join x)
-  exchanged-count = reordered-count x (ps ++ q ∷ p ∷ qs) exchanging
