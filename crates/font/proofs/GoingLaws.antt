@@ -7,8 +7,7 @@ use native.Mathlib.Omega.{arith}
 use lib.Dec.{eqb}
 use lib.ListN.{length, drop, getD, set, replicate, length-append, length-drop, length-set, length-replicate}
 use lib.Seq.{drop-drop, drop-append-seam, getD-set-same, getD-set-other}
-use borrow.Author.Tests.{ltb-true, eqb-true, eqb-false}
-use Rattle.format.specs.Limits.{isCode}
+use borrow.Author.Tests.{eqb-true, eqb-false}
 use Rattle.format.specs.Lists.{elem}
 use Rattle.format.specs.Refusals.{Refusal, Answer, gives, refused, answers, Result, ok, fault}
 use Rattle.format.specs.Numbers.{Bytes}
@@ -24,6 +23,7 @@ use Rattle.format.proofs.PieceLaws.{Is, step-is}
 use Rattle.format.proofs.ShorterLaws.{Less, less-rest, step-less, onward-step}
 use Rattle.refusals.specs.Names.{coded}
 use Rattle.font.specs.Answer.{toChecked}
+use Rattle.font.proofs.TurnLaws.{code-small}
 use Rattle.font.specs.Turns.{charsAfter, Marks, judgedTurn, turnFor, toTurn, IsTurn, IsEnding, IsOnward}
 use Rattle.font.specs.declared.Turn.{Turn}
 use Rattle.font.specs.declared.Turn.the-variants.{Packet, Command, Last, Refused}
@@ -159,10 +159,6 @@ Goes s start at n seen Last = (at < length s) × ((r : Checked) → IsEnding s a
 Goes s start at n seen (Refused x) = IsOnward s start (C.Refused x at)
 
 module _ (s : List ℕ) (start at n : ℕ) (seen : List Bool) (g : Going s start at n seen) where
-  code-small : (p : F.Packet) → F.PacketOk p → p .code < 256
-  unfolding isCode
-  code-small p o = ltb-true (p .code) 256 (o .code)
-
   -- A fault of the piece, or of its raster.
   stops : (x : Refusal) → ((a : Preamble) → onward a at (g .before) (drop at s) ≡ refused x at) → IsOnward s start (C.Refused (coded x) at)
   unfolding toChecked answers

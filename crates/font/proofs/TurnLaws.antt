@@ -49,7 +49,8 @@ not-before seen codes x raster j m l e q =
 
 -- ---- where its raster stands
 
-code-small : (p : F.Packet) → F.PacketOk p → p .code < 256
+-- A packet that 01 allows has a code below 256.
+pub code-small : (p : F.Packet) → F.PacketOk p → p .code < 256
 unfolding isCode
 code-small p o = ltb-true (p .code) 256 (o .code)
 
