@@ -22,8 +22,8 @@ use Rattle.format.proofs.PieceLaws as P
 use Rattle.format.proofs.PieceLaws.{Is, step-is}
 use Rattle.format.proofs.ShorterLaws.{Less, less-rest, step-less, onward-step}
 use Rattle.refusals.specs.Names.{coded}
+use Rattle.packet.proofs.StandingLaws.{code-small}
 use Rattle.font.specs.Answer.{toChecked}
-use Rattle.font.proofs.TurnLaws.{code-small}
 use Rattle.font.specs.Turns.{charsAfter, Marks, judgedTurn, turnFor, toTurn, IsTurn, IsEnding, IsOnward}
 use Rattle.font.specs.declared.Turn.{Turn}
 use Rattle.font.specs.declared.Turn.the-variants.{Packet, Command, Last, Refused}

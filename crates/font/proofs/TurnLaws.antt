@@ -22,10 +22,12 @@ use Rattle.refusals.specs.Names.{coded}
 use Rattle.judge.specs.Judgement.{judged}
 use Rattle.judge.specs.declared.Judged.{Judged}
 use Rattle.packet.specs.Outlines.{pieceOf}
+use Rattle.packet.specs.Standing.{InFont, rasterOf}
 use Rattle.packet.specs.declared.Outline.{Outline}
+use Rattle.packet.proofs.StandingLaws.{outline-found}
 use Rattle.packet.specs.declared.Piece.{Piece}
 use Rattle.packet.specs.declared.Piece.the-variants as N
-use Rattle.font.specs.Turns.{Marks, judgedTurn, asTurn, Found, rasterOf, packetTurn, toTurn}
+use Rattle.font.specs.Turns.{Marks, judgedTurn, asTurn, packetTurn, toTurn}
 use Rattle.font.specs.declared.Turn.{Turn}
 use Rattle.font.specs.declared.Turn.the-variants.{Packet, Command, Last, Refused}
 
@@ -47,28 +49,6 @@ unfolding packetTurn need _>>=_
 not-before seen codes x raster j m l e q =
     ap (λ (i : Judged). asTurn i (x .code) (x .end)) q ∙ as-judged (x .code) (x .end) (items (x .f) (x .w) (x .h) raster) ∙ rw (sym (m .marked (x .code) l) ∙ e) refl
 
--- ---- where its raster stands
-
--- A packet that 01 allows has a code below 256.
-pub code-small : (p : F.Packet) → F.PacketOk p → p .code < 256
-unfolding isCode
-code-small p o = ltb-true (p .code) 256 (o .code)
-
--- What stands before the rest r, at the end of what comes before.
-part-before : (s a ys r : List ℕ) → s ≡ a ++ (ys ++ r) → (length ys + length r ≤ length s) × (take (length ys) (drop (length s - length r - length ys) s) ≡ ys)
-part-before s a ys r e =
-    let l = ap length e ∙ length-append a (ys ++ r) in
-    let k = length-append ys r in
-    let i : length s - length r - length ys ≡ length a = omega arith in
-    (omega arith, rw (i, e, drop-append-seam a (ys ++ r), take-append-seam ys r) refl)
-
--- The font up to a packet's raster, its raster, and the rest.
-raster-part : (s : List ℕ) (at : ℕ) (p : F.Packet) (r : List ℕ) → drop at s ≡ bytesOf (F.packet p) ++ r
-    → s ≡ (take at s ++ flag p ∷ fieldBytes (kinds (p .form)) (fields p)) ++ (p .raster ++ r)
-unfolding bytesOf
-raster-part s at p r e =
-    sym (take-append-drop at s) ∙ ap (λ (x : List ℕ). take at s ++ x) e ∙ simp append-assoc refl
-
 -- ---- a piece
 
 -- The turn that a piece makes; and what is known of it, if it is a packet.
@@ -79,7 +59,7 @@ turnOf s codes N.Last = Last
 turnOf s codes (N.Refused x) = Refused x
 
 abbrev pub FoundIn : List ℕ → Piece → Type 0
-FoundIn s (N.Packet x) = Found s x
+FoundIn s (N.Packet x) = InFont s x
 FoundIn s (N.Command next) = Unit {0}
 FoundIn s N.Last = Unit {0}
 FoundIn s (N.Refused x) = Unit {0}
@@ -94,13 +74,8 @@ there s at (ok (piece (F.special k xs) r)) i = record { found = tt; same = λ co
 there s at (ok (piece (F.numeric xs) r)) i = record { found = tt; same = λ codes. refl }
 there s at (ok (piece F.noop r)) i = record { found = tt; same = λ codes. refl }
 there s at (ok (piece (F.packet p) r)) i =
-    let t = part-before s (take at s ++ flag p ∷ fieldBytes (kinds (p .form)) (fields p)) (p .raster) r (raster-part s at p r (i .whole)) in
-    let m = t .0 in
-    let j : length s - length r - (length s - length r - length (p .raster)) ≡ length (p .raster) = omega arith in
-    record {
-      found = record { f = i .ok .f; code = code-small p (i .ok); limits = i .ok .limits; begin = omega arith; end = omega arith };
-      same = λ codes. rw (j, t .1) refl;
-    }
+    let o = outline-found s at p r i in
+    record { found = o .0; same = λ codes. rw (o .1) refl }
 there s at (ok (last r)) i = record { found = tt; same = λ codes. refl }
 there s at (fault x) i = record { found = tt; same = λ codes. refl }
 

@@ -1,10 +1,9 @@
 -- What the inner functions of this crate answer, in the terms of the verdict. Assumes nothing: these are definitions.
-use Prim.Native.Nat.{ℕ, _+_, _-_, _≤_, _<_}
+use Prim.Native.Nat.{ℕ, _+_, _-_, _<_}
 use mathlib.Core.Path.{_≡_}
-use mathlib.Core.Bool.{Bool, true, false, not}
+use mathlib.Core.Bool.{Bool, false, not}
 use mathlib.Core.List.{List, [], _∷_}
-use lib.ListN.{length, getD, take, drop}
-use Rattle.format.specs.Limits.{inLimits}
+use lib.ListN.{length, getD, drop}
 use Rattle.format.specs.Lists.{elem}
 use Rattle.format.specs.Refusals.{codeTwice, answers, Result, ok, fault, _>>=_, need}
 use Rattle.format.specs.Pieces as F
@@ -37,18 +36,6 @@ judgedTurn t (fault x) = Refused (coded x)
 abbrev pub asTurn : Judged → ℕ → ℕ → Turn
 asTurn J.Whole code end = Packet code end
 asTurn (J.Fault x) code end = Refused x
-
--- An outline of a packet in the font.
-pub record Found (font : List ℕ) (x : Outline) : Type 0 where
-  pub f : x .f ≤ 14
-  pub code : x .code < 256
-  pub limits : inLimits (x .w) (x .h) ≡ true
-  pub begin : x .raster ≤ x .end
-  pub end : x .end ≤ length font
-
--- Its raster bytes.
-abbrev pub rasterOf : List ℕ → Outline → List ℕ
-rasterOf font x = take (x .end - x .raster) (drop (x .raster) font)
 
 -- A packet of an outline with its raster bytes, behind packets with the codes seen.
 unfoldable pub packetTurn : List ℕ → Outline → List ℕ → Turn

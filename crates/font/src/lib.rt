@@ -7,15 +7,13 @@ ghost use Rattle.format.specs.Lists.{all};
 ghost use Rattle.format.specs.Refusals.{answers, told};
 ghost use Rattle.format.specs.Cut.{chars};
 ghost use Rattle.format.specs.Verdict.{step, begin, check};
+ghost use Rattle.packet.specs.Standing.{InFont, rasterOf};
 ghost use Rattle.font.specs.Answer.{toChecked, inNumbers};
-ghost use Rattle.font.specs.Turns.{asTurn, Found, rasterOf, IsPacketTurn, IsTurn, IsEnding, IsOnward};
+ghost use Rattle.font.specs.Turns.{asTurn, IsPacketTurn, IsTurn, IsEnding, IsOnward};
 use judge::Judged;
 use packet::Outline;
 use packet::Piece;
 use refusals::Refusal;
-
-// The bytes of a preamble beside its comment: 247, 89, the comment's length, and four numbers of four bytes.
-const PREAMBLE: usize = 19;
 
 // The number of characters, or the first refusal with its place.
 pub enum Checked {
@@ -43,7 +41,7 @@ fn as_turn(judged: Judged, code: usize, end: usize) -> Turn
 
 // A packet behind others with the codes seen: 9, then the raster's faults.
 fn packet_turn(font: &[u8], x: Outline, seen: &[bool; 256]) -> Turn
-    requires { ⌜ Found (now font) x ⌝ }
+    requires { ⌜ InFont (now font) x ⌝ }
     ensures { λ r. ⌜ IsPacketTurn (now (seen .entry)) x (rasterOf (now (font .entry)) x) r ⌝ }
 {
     let code = x.code;
@@ -160,7 +158,7 @@ fn begin(font: &[u8]) -> Checked
     if n == 2 {
         return Checked::Refused(Refusal::FILE_ENDS, 0);
     }
-    let start = byte::wide(font[2]) + PREAMBLE;
+    let start = byte::wide(font[2]) + pieces::PREAMBLE;
     if n < start {
         return Checked::Refused(Refusal::FILE_ENDS, 0);
     }

@@ -1,12 +1,12 @@
 -- A raster of bits is read whole exactly if it draws something: w × h pixels, and spare bits that are zero. Assumes nothing.
-use Prim.Native.Nat.{ℕ, zero, suc, _*_}
+use Prim.Native.Nat.{ℕ, zero, suc, _+_, _*_, _≤_}
 use mathlib.Core.Path.{_≡_, refl, sym, ap, _∙_}
 use mathlib.Core.List.{List, [], _∷_, _++_}
 use mathlib.Core.Bool.{Bool, true, false}
 use native.Mathlib.Omega.{arith}
 use lib.Dec.{eqb, leb}
 use lib.ListN.{length, take, drop, replicate, length-append, length-drop, length-replicate, take-append-drop}
-use lib.Seq.{drop-at, length-take-le}
+use lib.Seq.{drop-at, drop-drop, length-take-le}
 use borrow.Author.Tests.{leb-true, le-leb, eqb-true, eq-eqb}
 use Rattle.format.specs.Lists.{all}
 use Rattle.format.specs.Refusals.{Refusal, Result, ok, _>>=_, need, rasterEnds, leftOver}
@@ -16,10 +16,19 @@ use Rattle.format.proofs.Tests.{and-true}
 use Rattle.format.proofs.ItemLaws.{fault≢}
 
 -- Eight bits to a byte.
-length-bits : (s : List ℕ) → length (bits s) ≡ 8 * length s
+pub length-bits : (s : List ℕ) → length (bits s) ≡ 8 * length s
 unfolding bits bitsOf
 length-bits [] = refl
 length-bits (b ∷ s) = omega (arith, length-bits s)
+
+-- The bits behind j bytes and m bits more.
+pub bits-behind : (j m : ℕ) (s : List ℕ) → j ≤ length s → drop (8 * j + m) (bits s) ≡ drop m (bits (drop j s))
+unfolding bits bitsOf
+bits-behind zero m s l = let e : 8 * 0 + m ≡ m = omega arith in rw e refl
+bits-behind (suc j) m [] l = absurd (omega arith)
+bits-behind (suc j) m (b ∷ s) l =
+    let e : 8 * suc j + m ≡ 8 + (8 * j + m) = omega arith in
+    rw (e, ← drop-drop (8 * j + m) 8 (bits (b ∷ s))) (bits-behind j m s (omega arith))
 
 -- Every entry is c.
 pub all-is : (c : ℕ) (s : List ℕ) → all c s ≡ true → s ≡ replicate (length s) c

@@ -36,32 +36,6 @@ insert-ok : (c : Piece) (ps qs : List Piece) → PieceOk c → AllOk (ps ++ qs) 
 insert-ok c [] qs h a = (h, a)
 insert-ok c (p ∷ ps) qs h a = (a .0, insert-ok c ps qs h (a .1))
 
--- With a command more anywhere among its pieces, and an ending of any number of 246, a font is accepted still, as long as it is one of bytes, not
--- too long, and its length a multiple of four.
-module _ (x : Parts) (ps qs : List Piece) (c : Piece) (pad : ℕ) (is : x .pieces ≡ ps ++ qs) (command : Command c) (allowed : PieceOk c) where
-  pub withCommand : Parts
-  withCommand = record { preamble = x .preamble; pieces = ps ++ c ∷ qs; pad = pad }
-
-  same-packets : packets (x .pieces) ≡ packets (ps ++ c ∷ qs)
-  same-packets = ap packets is ∙ sym (command-anywhere c command ps qs)
-
-  pub command-accepted : (s : List ℕ) → Cut s x → Bytes (join withCommand) → length (join withCommand) ≤ most → length (join withCommand) % 4 ≡ 0
-      → verdict (join withCommand) ≡ gives withCommand
-  unfolding withCommand
-  command-accepted s k b l f =
-      cut-verdict (join withCommand) withCommand
-      (record {
-        bytes = b;
-        whole = refl;
-        small = l;
-        four = f;
-        preamble = k .preamble;
-        pieces = insert-ok c ps qs allowed (subst AllOk is (k .pieces));
-        filled = subst AllFilled same-packets (k .filled);
-        distinct = subst (λ (q : List Packet). Distinct (codes q)) same-packets (k .distinct);
-        any = subst (λ (q : List Packet). 0 < length q) same-packets (k .any);
-      })
-
 -- Two accepted fonts with the same packets answer alike.
 module _ (s t : List ℕ) (x y : Parts) (p : verdict s ≡ gives x) (q : verdict t ≡ gives y) (e : packets (x .pieces) ≡ packets (y .pieces)) where
   pub same-count : check s ≡ check t
@@ -71,3 +45,38 @@ module _ (s t : List ℕ) (x y : Parts) (p : verdict s ≡ gives x) (q : verdict
   pub same-drawings : (code room : ℕ) → draw s code room ≡ draw t code room
   unfolding draw drawFrom
   same-drawings code room = rw (p, q, e)
+
+-- With a command more anywhere among its pieces, and an ending of any number of 246, a font is accepted still, as long as it is one of bytes, not
+-- too long, and its length a multiple of four.
+module _ (x : Parts) (ps qs : List Piece) (c : Piece) (pad : ℕ) (is : x .pieces ≡ ps ++ qs) (command : Command c) (allowed : PieceOk c) where
+  pub withCommand : Parts
+  withCommand = record { preamble = x .preamble; pieces = ps ++ c ∷ qs; pad = pad }
+
+  same-packets : packets (x .pieces) ≡ packets (ps ++ c ∷ qs)
+  same-packets = ap packets is ∙ sym (command-anywhere c command ps qs)
+
+  module _ (s : List ℕ) (k : Cut s x) (b : Bytes (join withCommand)) (l : length (join withCommand) ≤ most) (f : length (join withCommand) % 4 ≡ 0) where
+    pub command-accepted : verdict (join withCommand) ≡ gives withCommand
+    unfolding withCommand
+    command-accepted =
+        cut-verdict (join withCommand) withCommand
+        (record {
+          bytes = b;
+          whole = refl;
+          small = l;
+          four = f;
+          preamble = k .preamble;
+          pieces = insert-ok c ps qs allowed (subst AllOk is (k .pieces));
+          filled = subst AllFilled same-packets (k .filled);
+          distinct = subst (λ (q : List Packet). Distinct (codes q)) same-packets (k .distinct);
+          any = subst (λ (q : List Packet). 0 < length q) same-packets (k .any);
+        })
+
+    -- It has as many characters, and each code draws the same.
+    pub command-count : check (join withCommand) ≡ check s
+    unfolding withCommand
+    command-count = same-count (join withCommand) s withCommand x command-accepted (cut-verdict s x k) (sym same-packets)
+
+    pub command-drawings : (code room : ℕ) → draw (join withCommand) code room ≡ draw s code room
+    unfolding withCommand
+    command-drawings = same-drawings (join withCommand) s withCommand x command-accepted (cut-verdict s x k) (sym same-packets)

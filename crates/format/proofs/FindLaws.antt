@@ -1,12 +1,12 @@
 -- The packet of a code is found wherever it stands, and no other: packets stand in any order. Assumes nothing.
 use Prim.Native.Nat.{ℕ}
-use mathlib.Core.Path.{_≡_, refl, sym, ap, _∙_}
+use mathlib.Core.Path.{_≡_, refl, ap, _∙_}
 use mathlib.Core.List.{List, [], _∷_, _++_}
 use mathlib.Core.Bool.{false}
 use lib.Dec.{eqb}
 use borrow.Author.Tests.{eqb-true, eq-eqb}
 use Rattle.format.specs.Lists.{elem}
-use Rattle.format.specs.Refusals.{Result, ok, fault, noSuchCode}
+use Rattle.format.specs.Refusals.{ok}
 use Rattle.format.specs.Pieces.{Packet}
 use Rattle.format.specs.Cut.{codes, Distinct}
 use Rattle.format.specs.Drawing.{find}
@@ -43,19 +43,3 @@ found-among code (q ∷ ps) p e =
     record { before = []; behind = ps; whole = ap (λ (x : Packet). x ∷ ps) y; has = eqb-true code (q .code) t ∙ ap (λ (x : Packet). x .code) y })
     (λ t. let r = found-among code ps p (rw t at e) in
     record { before = q ∷ r .before; behind = r .behind; whole = ap (λ (x : List Packet). q ∷ x) (r .whole); has = r .has })
-
--- 16 is given exactly if no packet has the code.
-pub none-found : (code : ℕ) (ps : List Packet) → elem code (codes ps) ≡ false → find code ps ≡ fault noSuchCode
-unfolding find elem codes
-none-found code [] e = refl
-none-found code (q ∷ ps) e =
-    let t = or-false (eqb code (q .code)) (elem code (codes ps)) e in
-    rw (t .0) (none-found code ps (t .1))
-
-pub found-none : (code : ℕ) (ps : List Packet) → find code ps ≡ fault noSuchCode → elem code (codes ps) ≡ false
-unfolding find elem codes
-found-none code [] e = refl
-found-none code (q ∷ ps) e =
-    test (eqb code (q .code))
-    (λ t. let z : ok q ≡ fault noSuchCode = rw t at e in absurd (fault≢ (sym z)))
-    (λ t. rw t (found-none code ps (rw t at e)))

@@ -21,12 +21,15 @@ pub mod StateLaws
 pub mod InsideLaws
 pub mod ReadingLaws
 pub mod ReadingTheorems
+pub mod ItemwiseLaws
 pub mod BitLaws
 pub mod FillLaws
+pub mod PixelLaws
 pub mod ShorterLaws
 pub mod CodeLaws
 pub mod OnwardLaws
 pub mod CutTheorems
+pub mod DrawTheorems
 pub mod RasterFaultLaws
 pub mod PieceFaultLaws
 pub mod FaultTheorems

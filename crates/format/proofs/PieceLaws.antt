@@ -33,11 +33,22 @@ header-values short (pixels dm) p b n h e = let z : b % 4 * 256 + n % 256 ≡ n 
 header-values extended (pixels dm) p b n h e = let z : b % 4 * 65536 + n % 65536 ≡ n = omega arith in rw z
 header-values long (scaled dx, scaled dy) p b n h e = refl
 
-form-flag : (k : Form) (b n : ℕ) → n < lengthTop k → b % 8 ≡ formBits k n → formOf b ≡ k
+-- What flag mod 8 is in each form.
+abbrev pub Bits : Form → ℕ → Type 0
+Bits short l = l < 4
+Bits extended l = (4 ≤ l) × (l < 7)
+Bits long l = l ≡ 7
+
+pub form-is : (k : Form) (b : ℕ) → Bits k (b % 8) → formOf b ≡ k
 unfolding formOf
-form-flag short b n h e = rw (lt-ltb (b % 8) 4 (omega arith))
-form-flag extended b n h e = rw (le-ltb (b % 8) 4 (omega arith), lt-ltb (b % 8) 7 (omega arith))
-form-flag long b n h e = rw (le-ltb (b % 8) 4 (omega arith), le-ltb (b % 8) 7 (omega arith))
+form-is short b h = rw (lt-ltb (b % 8) 4 h)
+form-is extended b h = rw (le-ltb (b % 8) 4 (h .0), lt-ltb (b % 8) 7 (h .1))
+form-is long b h = rw (le-ltb (b % 8) 4 (omega arith), le-ltb (b % 8) 7 (omega arith))
+
+bits-length : (k : Form) (l n : ℕ) → n < lengthTop k → l ≡ formBits k n → Bits k l
+bits-length short l n h e = omega arith
+bits-length extended l n h e = (omega arith, omega arith)
+bits-length long l n h e = e
 
 bits-small : (k : Form) (n : ℕ) → n < lengthTop k → formBits k n < 8
 bits-small short n h = omega arith
@@ -63,9 +74,19 @@ fits-length : (p : Packet) → PacketOk p → packetLength p < lengthTop (p .for
 unfolding fits
 fits-length p o = ltb-true (packetLength p) (lengthTop (p .form)) (and-true (ltb (packetLength p) (lengthTop (p .form))) _ (o .fits) .0)
 
-fits-fields : (p : Packet) → PacketOk p → allHeld (kinds (p .form)) (fields p) ≡ true
+pub fits-fields : (p : Packet) → PacketOk p → allHeld (kinds (p .form)) (fields p) ≡ true
 unfolding fits
 fits-fields p o = and-true (ltb (packetLength p) (lengthTop (p .form))) _ (o .fits) .1
+
+-- Its flag has these parts, and says its form.
+flag-parts : (p : Packet) → PacketOk p → Flag (flag p) (p .f) (formBits (p .form) (packetLength p)) (p .black)
+unfolding flag
+flag-parts p o =
+    let n = packetLength p in
+    flag-apart (p .f) (formBits (p .form) n) (p .black) (bits-small (p .form) n (fits-length p o))
+
+pub flag-form : (p : Packet) → PacketOk p → formOf (flag p) ≡ p .form
+flag-form p o = form-is (p .form) (flag p) (bits-length (p .form) (flag p % 8) (packetLength p) (fits-length p o) (flag-parts p o .low))
 
 raster-found : (p : Packet) (b : ℕ) (r : List ℕ) → PacketOk p → Flag b (p .f) (formBits (p .form) (packetLength p)) (p .black)
     → rasterAt b (headerIn (p .form) (p .escapement) p (packetLength p)) (length (p .raster)) (p .raster ++ r) ≡ ok (piece (packet p) r)
@@ -130,18 +151,15 @@ numeric-found xs r o = rw (le-leb 4 (length (xs ++ r)) (rw length-append (omega 
 
 -- What is a piece is found, whatever follows.
 pub step-piece : (p : Piece) (r : List ℕ) → PieceOk p → step (bytesOf p ++ r) ≡ ok (piece p r)
-unfolding step bytesOf flag
+unfolding step bytesOf
 step-piece (special k xs) r o =
     let m : 239 + k - 239 ≡ k = omega arith in
     rw (le-ltb (239 + k) 240 (omega arith), lt-ltb (239 + k) 244 (omega arith), m, append-assoc (bytes k (length xs)) xs r) (special-found k xs r o)
 step-piece (numeric xs) r o = numeric-found xs r o
 step-piece noop r o = refl
 step-piece (packet p) r o =
-    let n = packetLength p in
-    let low = formBits (p .form) n in
-    let e = flag-apart (p .f) low (p .black) (bits-small (p .form) n (fits-length p o)) in
-    let l : flag p % 8 ≡ low = e .low in
-    rw (lt-ltb (flag p) 240 (omega (arith, o .f, e .f)), form-flag (p .form) (flag p) n (fits-length p o) l, append-assoc (fieldBytes (kinds (p .form)) (fields p)) (p .raster) r)
+    let e = flag-parts p o in
+    rw (lt-ltb (flag p) 240 (omega (arith, o .f, e .f)), flag-form p o, append-assoc (fieldBytes (kinds (p .form)) (fields p)) (p .raster) r)
     (packet-found p (flag p) r o e)
 
 -- ---- a piece that is found is what stands there
@@ -171,12 +189,6 @@ record Rebuilt (k : Form) (b : ℕ) (v : Values (kinds k)) (p : Packet) : Type 0
   same : fieldBytes (kinds (p .form)) (fields p) ≡ fieldBytes (kinds k) v
   head : flag p ≡ b
   fits : fits p ≡ true
-
--- The flags of each form.
-abbrev Bits : Form → ℕ → Type 0
-Bits short l = l < 4
-Bits extended l = (4 ≤ l) × (l < 7)
-Bits long l = l ≡ 7
 
 form-bits : (b : ℕ) → Bits (formOf b) (b % 8)
 unfolding formOf

@@ -2,7 +2,7 @@
 -- Assumes nothing: these are definitions.
 use Prim.Native.Nat.{ℕ, _*_, _/_}
 use mathlib.Core.List.{List, [], _∷_}
-use mathlib.Core.Bool.{cond}
+use mathlib.Core.Bool.{Bool, cond}
 use lib.Dec.{eqb, leb}
 use lib.ListN.{length, take}
 use Rattle.format.specs.Refusals.{noSuchCode, noRoom, Answer, gives, refused, answers, lent, Result, ok, fault, _>>=_, need, answerAt}
@@ -13,16 +13,19 @@ use Rattle.format.specs.Cut.{packets, Parts}
 use Rattle.format.specs.Reading.{items}
 use Rattle.format.specs.Verdict.{verdict}
 
--- The pixels of a packet whose raster has these items, rows top to bottom, left to right.
-unfoldable pub drawnBy : Packet → Result (List Item) → List ℕ
-drawnBy p (fault x) = []
-drawnBy p (ok is) =
-    cond (eqb (p .f) 14) (take (p .w * p .h) (bits (p .raster)))
-    (picture (p .w) (colour (p .black)) (length (string (colour (p .black)) is) / p .w) is)
+-- The pixels of raster bytes that have these items, rows top to bottom, left to right: with f = 14 the bits, whatever the items; none where
+-- the raster is at fault.
+unfoldable pub drawnBy : ℕ → Bool → ℕ → ℕ → List ℕ → Result (List Item) → List ℕ
+drawnBy f black w h bytes (fault x) = []
+drawnBy f black w h bytes (ok is) =
+    cond (eqb f 14) (take (w * h) (bits bytes)) (picture w (colour black) (length (string (colour black) is) / w) is)
 
--- The pixels of a packet.
+-- The pixels of raster bytes, and of a packet.
+unfoldable pub rasterPixels : ℕ → Bool → ℕ → ℕ → List ℕ → List ℕ
+rasterPixels f black w h bytes = drawnBy f black w h bytes (items f w h bytes)
+
 unfoldable pub pixelsOf : Packet → List ℕ
-pixelsOf p = drawnBy p (items (p .f) (p .w) (p .h) (p .raster))
+pixelsOf p = rasterPixels (p .f) (p .black) (p .w) (p .h) (p .raster)
 
 -- The packet of a code, wherever it stands.
 unfoldable pub find : ℕ → List Packet → Result Packet
@@ -35,7 +38,7 @@ drawn room p = do
   _ ← need (leb (p .w * p .h) room) noRoom
   ok (measures p, pixelsOf p)
 
--- The measures and pixels that a font's parts say of a code.
+-- The measures and pixels that a font's parts say of a code, or the font's refusal.
 unfoldable pub drawFrom : ℕ → ℕ → Answer Parts → Answer (Measures × List ℕ)
 drawFrom code room (refused r place) = refused r place
 drawFrom code room (gives x) = answerAt 0 (find code (packets (x .pieces)) >>= drawn room)

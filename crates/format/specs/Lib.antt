@@ -7,6 +7,7 @@ pub mod Pieces
 pub mod Packed
 pub mod Rasters
 pub mod Cut
+pub mod Codes
 pub mod Decoding
 pub mod Reading
 pub mod Verdict

@@ -1,5 +1,6 @@
 -- A raster's items, or its first refusal, as its nybbles are taken in order (01, Numbers given back: 10 to 13). Assumes nothing: these are definitions.
 use Prim.Native.Nat.{ℕ, zero, suc, _+_, _-_, _*_, _/_}
+use mathlib.Core.Path.{_≡_}
 use mathlib.Core.List.{List, [], _∷_}
 use mathlib.Core.Bool.{cond}
 use lib.Dec.{eqb, leb, ltb}
@@ -128,3 +129,7 @@ unfoldable pub items : ℕ → ℕ → ℕ → List ℕ → Result (List Item)
 items f zero h bytes = noneRead bytes
 items f (suc w) h bytes =
     cond (eqb f 14) (bitsRead (suc w * h) (bytesOfBits (suc w * h)) bytes) (reading f (suc w) h bytes)
+
+-- The raster is read whole.
+abbrev pub ReadWhole : ℕ → ℕ → ℕ → List ℕ → Type 0
+ReadWhole f w h bytes = (is : List Item) × (items f w h bytes ≡ ok is)

@@ -1,5 +1,5 @@
 -- Laws of a raster of bits, one for each answer: its spare bits are judged by the last byte. Assumes nothing.
-use Prim.Native.Nat.{ℕ, zero, suc, _+_, _-_, _*_, _/_, _%_, _^_, _≤_, _<_}
+use Prim.Native.Nat.{ℕ, suc, _+_, _-_, _*_, _/_, _%_, _^_, _≤_, _<_}
 use mathlib.Core.Path.{_≡_, refl, sym, ap, _∙_}
 use mathlib.Core.Bool.{Bool, true, false}
 use mathlib.Core.List.{List, [], _∷_}
@@ -7,13 +7,14 @@ use native.Mathlib.Nat.{one-le-pow}
 use native.Mathlib.Omega.{arith}
 use lib.Dec.{T, eqb, eqb→eq}
 use lib.ListN.{length, drop, getD, replicate, drop-of-length-le}
-use lib.Seq.{drop-cons, drop-drop}
+use lib.Seq.{drop-cons}
 use borrow.Author.Tests.{le-leb, lt-leb, eq-eqb, ne-eqb}
 use Rattle.format.specs.Lists.{all}
 use Rattle.format.specs.Refusals.{rasterEnds, leftOver, ok, _>>=_, need}
 use Rattle.format.specs.Rasters.{bitsOf, bits, bytesOfBits}
 use Rattle.format.specs.Reading.{bitsRead}
 use Rattle.format.proofs.Table.{every, at}
+use Rattle.format.proofs.BitLaws.{bits-behind}
 use Rattle.refusals.specs.Names.{coded}
 use Rattle.judge.specs.Judgement.{judged}
 use Rattle.judge.specs.declared.Judged.the-variants.{Whole, Fault}
@@ -58,15 +59,6 @@ low-rule b m h l =
     (at (λ (m y : ℕ). lowOk b m) (replicate 9 0) (at lowsOk (replicate 256 0) tt b h) m (omega arith))
 
 -- ---- the spare bits
-
--- Behind j bytes.
-bits-behind : (j m : ℕ) (s : List ℕ) → j ≤ length s → drop (8 * j + m) (bits s) ≡ drop m (bits (drop j s))
-unfolding bits bitsOf
-bits-behind zero m s l = let e : 8 * 0 + m ≡ m = omega arith in rw e refl
-bits-behind (suc j) m [] l = absurd (omega arith)
-bits-behind (suc j) m (b ∷ s) l =
-    let e : 8 * suc j + m ≡ 8 + (8 * j + m) = omega arith in
-    rw (e, ← drop-drop (8 * j + m) 8 (bits (b ∷ s))) (bits-behind j m s (omega arith))
 
 -- The last byte holds them.
 last-bits : (s : List ℕ) (n k : ℕ) → length s ≡ k → k ≡ (n + 7) / 8 → 1 ≤ n → drop n (bits s) ≡ drop (8 - (8 * k - n)) (bitsOf (getD s (k - 1) 0))

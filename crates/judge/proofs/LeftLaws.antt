@@ -1,26 +1,24 @@
 -- What is left to judge: the loop's invariant, and its laws for the start, a turn, a stop and the end. Assumes nothing.
-use Prim.Native.Nat.{ℕ, zero, suc, _+_, _-_, _*_, _≤_, _<_}
+use Prim.Native.Nat.{ℕ, zero, suc, _-_, _*_, _≤_, _<_}
 use mathlib.Core.Path.{_≡_, refl, sym, ap, _∙_, subst}
 use mathlib.Core.Bool.{Bool}
 use mathlib.Core.Logic.{inl}
-use mathlib.Core.List.{List, [], _∷_, _++_}
+use mathlib.Core.List.{List, [], _∷_}
 use native.Mathlib.Omega.{arith}
-use lib.ListN.{length, take, drop, length-append, take-append-drop}
-use lib.Seq.{drop-drop, drop-append-seam}
+use lib.ListN.{length}
 use Rattle.format.specs.Refusals.{Refusal, rasterEnds, Result, ok, fault, _>>=_}
 use Rattle.format.specs.Numbers.{Bytes}
 use Rattle.format.specs.Packed.{nybbles}
-use Rattle.format.specs.Rasters.{Item, Number, written, writings}
+use Rattle.format.specs.Rasters.{Item}
 use Rattle.format.specs.Reading as R
 use Rattle.format.specs.Reading.{start, itemOf, turn, finish, walk, reading}
-use Rattle.format.proofs.PackedLaws.{Nybbles, length-nybbles, bytes-nybbles}
+use Rattle.format.proofs.PackedLaws.{length-nybbles}
 use Rattle.format.proofs.StateLaws.{Inside}
 use Rattle.format.proofs.InsideLaws.{below, item-inside}
-use Rattle.format.proofs.ItemLaws.{item-took}
-use Rattle.format.proofs.ReadingLaws.{walk-full, walk-next, walk-none, turn-ok, nybs-rest}
-use Rattle.format.proofs.ReadingTheorems.{enough}
+use Rattle.format.proofs.ReadingLaws.{walk-full, walk-next, walk-none, turn-ok}
 use Rattle.packed.specs.Answer.{from}
 use Rattle.packed.proofs.Part.{from-length}
+use Rattle.items.proofs.PlaceLaws.{Later, item-later}
 use Rattle.refusals.specs.Names.{coded}
 use Rattle.refusals.specs.declared.Refusal as D
 use Rattle.state.specs.Moves.{plain, coloured, Within}
@@ -57,44 +55,6 @@ unfolding _>>=_ judged turn itemOf
 walk-stop zero f w h x s [] l m e = let z : rasterEnds ≡ x = cc in ap (λ (y : Refusal). J.Fault (coded y)) (sym z) ∙ sym (ap judged (walk-none f w h s [] l))
 walk-stop zero f w h x s (y ∷ xs) l m e = absurd (omega arith)
 walk-stop (suc g) f w h x s xs l m e = rw (walk-next g f w h s xs l, e) refl
-
--- ---- what is behind an item
-
--- The nybbles rest stand from the place next on, which is later.
-record Later (s : List ℕ) (at next : ℕ) (rest : List ℕ) : Type 0 where
-  after : at < next
-  upto : next ≤ 2 * length s
-  rest-is : from s next ≡ rest
-
-later : (s : List ℕ) (at : ℕ) (ys rest : List ℕ) → at ≤ 2 * length s → 1 ≤ length ys → from s at ≡ ys ++ rest → Later s at (2 * length s - length rest) rest
-unfolding from
-later s at ys rest l m e =
-    let k = from-length s at in
-    let n = ap length e ∙ length-append ys rest in
-    let j : 2 * length s - length rest ≡ at + length ys = omega arith in
-    record {
-      after = omega arith;
-      upto = omega arith;
-      rest-is = rw (j, ← drop-drop (length ys) at (nybbles s), e) (drop-append-seam ys rest);
-    }
-
-nybs-drop : (n : ℕ) (xs : List ℕ) → Nybbles xs → Nybbles (drop n xs)
-nybs-drop n xs h = nybs-rest (take n xs) (drop n xs) (subst Nybbles (sym (take-append-drop n xs)) h)
-
-nybs-from : (s : List ℕ) (at : ℕ) → Bytes s → Nybbles (from s at)
-unfolding from
-nybs-from s at b = nybs-drop at (nybbles s) (bytes-nybbles s b)
-
--- An item has a nybble at least.
-written-some : (f : ℕ) (i : Item) → f ≤ 13 → Number i → 1 ≤ length (written f i)
-unfolding writings
-written-some f i hf p = omega (arith, enough f (i ∷ []) hf (p, tt), length-append (written f i) [])
-
--- Behind an item that is read.
-item-later : (s : List ℕ) (at f rep : ℕ) (i : Item) (rest : List ℕ) → f ≤ 13 → Bytes s → at ≤ 2 * length s → itemOf f rep (from s at) ≡ ok (i, rest) → Later s at (2 * length s - length rest) rest
-item-later s at f rep i rest hf b l e =
-    let t = item-took f rep (from s at) i rest hf (nybs-from s at b) e in
-    later s at (written f i) rest l (written-some f i hf (t .number)) (t .cut)
 
 -- ---- the loop
 

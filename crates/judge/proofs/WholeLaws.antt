@@ -1,12 +1,10 @@
 -- Which raster a packet has: none, bits, or runs. Assumes nothing.
-use Prim.Native.Nat.{ℕ, zero, suc, _*_, _≤_}
+use Prim.Native.Nat.{ℕ, zero, suc, _*_}
 use mathlib.Core.Path.{_≡_, refl, _∙_}
-use mathlib.Core.Bool.{true}
 use mathlib.Core.List.{List, [], _∷_}
 use native.Mathlib.Omega.{arith}
 use lib.ListN.{length}
-use borrow.Author.Tests.{leb-true, eq-eqb, ne-eqb}
-use Rattle.format.specs.Limits.{inLimits}
+use borrow.Author.Tests.{eq-eqb, ne-eqb}
 use Rattle.format.specs.Refusals.{leftOver}
 use Rattle.format.specs.Rasters.{bytesOfBits}
 use Rattle.format.specs.Reading.{noneRead, bitsRead, reading, items}
@@ -14,18 +12,6 @@ use Rattle.refusals.specs.Names.{coded}
 use Rattle.judge.specs.Judgement.{judged}
 use Rattle.judge.specs.declared.Judged.{Judged}
 use Rattle.judge.specs.declared.Judged.the-variants.{Whole, Fault}
-
--- What the limits give for w of at least 1.
-pub record Sized (w h : ℕ) : Type 0 where
-  pub high : 1 ≤ h
-  pub some : 1 ≤ w * h
-  pub small : w * h ≤ 65536
-
-pub sized : (w h : ℕ) → inLimits w h ≡ true → (w ≡ 0 → ⊥) → Sized w h
-unfolding inLimits
-sized zero h e n = absurd (n refl)
-sized (suc w) zero e n = absurd (let z : _≡_ {A = ℕ} 0 1 = cc in omega arith)
-sized (suc w) (suc h) e n = record { high = omega arith; some = omega arith; small = leb-true (suc w * suc h) 65536 e }
 
 module _ (f w h : ℕ) (s : List ℕ) where
   pub none-whole : w ≡ 0 → length s ≡ 0 → Whole ≡ judged (items f w h s)

@@ -15,6 +15,7 @@ use Rattle.format.specs.Numbers.{signed, size, twos}
 use Rattle.format.specs.Pieces.{Form, short, extended, long, kinds, fixed, packet}
 use Rattle.format.specs.Decoding.{number, valueOf, readFields}
 use Rattle.format.specs.Verdict.{piece, atLeast, formOf, Header, header, packetOf, rasterAt, packetAt}
+use Rattle.format.proofs.PieceLaws.{Bits, form-is}
 use Rattle.refusals.specs.Names.{coded}
 use Rattle.packet.proofs.LimitLaws.{Low, limits-raw, code-raw, limits-own, code-own}
 use Rattle.packet.specs.declared.Fields.{Fields}
@@ -169,14 +170,5 @@ long-judged b at n room s x r i h e en er q =
 -- ---- the form
 
 -- What flag mod 8 says.
-pub form-short : (b at : ℕ) (s : List ℕ) (r : Piece) → b % 8 < 4 → r ≡ outlined (narrowForm 1) b at s → r ≡ outlined (formOf b) b at s
-unfolding formOf
-form-short b at s r h e = e ∙ rw (lt-ltb (b % 8) 4 h) refl
-
-pub form-extended : (b at : ℕ) (s : List ℕ) (r : Piece) → 4 ≤ b % 8 → b % 8 < 7 → r ≡ outlined (narrowForm 2) b at s → r ≡ outlined (formOf b) b at s
-unfolding formOf
-form-extended b at s r h k e = e ∙ rw (le-ltb (b % 8) 4 h, lt-ltb (b % 8) 7 k) refl
-
-pub form-long : (b at : ℕ) (s : List ℕ) (r : Piece) → 7 ≤ b % 8 → r ≡ outlined long b at s → r ≡ outlined (formOf b) b at s
-unfolding formOf
-form-long b at s r h e = e ∙ rw (le-ltb (b % 8) 4 (omega arith), le-ltb (b % 8) 7 h) refl
+pub form-outlined : (k : Form) (b at : ℕ) (s : List ℕ) (r : Piece) → Bits k (b % 8) → r ≡ outlined k b at s → r ≡ outlined (formOf b) b at s
+form-outlined k b at s r h e = e ∙ ap (λ (j : Form). outlined j b at s) (sym (form-is k b h))

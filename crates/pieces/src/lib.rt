@@ -10,6 +10,9 @@ ghost use Rattle.packet.specs.Outlines.{pieceOf};
 use packet::Piece;
 use refusals::Refusal;
 
+// The bytes of a preamble beside its comment: 247, 89, the comment's length, and four numbers of four bytes.
+pub const PREAMBLE: usize = 19;
+
 // 240 to 243: a length in k bytes, which stand at `at`, then that many bytes, which are stepped over.
 fn special(font: &[u8], at: usize, k: usize) -> Piece
     requires { ⌜ (at ≤ length (now font)) × (1 ≤ k) × (k ≤ 4) ⌝ }

@@ -33,4 +33,8 @@ impl Refusal {
     pub const BAD_ENDING: Refusal = Refusal(14);
 
     pub const NO_PACKET: Refusal = Refusal(15);
+
+    pub const NO_SUCH_CODE: Refusal = Refusal(16);
+
+    pub const NO_ROOM: Refusal = Refusal(17);
 }

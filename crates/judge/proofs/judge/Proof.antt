@@ -1,5 +1,6 @@
 use native.Mathlib.Omega.{arith}
-use Rattle.judge.proofs.WholeLaws.{sized, none-whole, none-wanted, in-bits, in-runs}
+use Rattle.format.proofs.FillLaws.{limited}
+use Rattle.judge.proofs.WholeLaws.{none-whole, none-wanted, in-bits, in-runs}
 use Rattle.judge.proofs.judge.Statement.{statement}
 use Rattle.judge.proofs.judge.Tie as tie
 
@@ -10,12 +11,12 @@ returns-2 : tie.Need-returns-2
 returns-2 c = none-wanted _ _ _ _ (omega arith) (λ e. omega arith)
 
 mul-judge-bits : tie.Need-mul-judge-bits
-mul-judge-bits c = omega (arith, sized (c .before .before .before .args .w) (c .before .before .before .args .h) (c .before .before .before .pre .1) (λ e. omega arith) .small)
+mul-judge-bits c = omega (arith, limited (c .before .before .before .args .w) (c .before .before .before .args .h) (c .before .before .before .pre .1) (λ e. omega arith) .small)
 
 judge-bits-requires : tie.Need-judge-bits-requires
 judge-bits-requires c κs =
     let o = c .before .before .before in
-    let z = sized (o .args .w) (o .args .h) (o .pre .1) (λ e. omega arith) in
+    let z = limited (o .args .w) (o .args .h) (o .pre .1) (λ e. omega arith) in
     (z .some, z .small)
 
 returns-3 : tie.Need-returns-3
@@ -24,7 +25,7 @@ returns-3 c = in-bits _ _ _ _ _ (λ e. omega arith) (omega arith) (c .judge-bits
 judge-runs-requires : tie.Need-judge-runs-requires
 judge-runs-requires c κs =
     let o = c .before .before .before in
-    let z = sized (o .args .w) (o .args .h) (o .pre .1) (λ e. omega arith) in
+    let z = limited (o .args .w) (o .args .h) (o .pre .1) (λ e. omega arith) in
     (omega arith, omega arith, z .high, z .small)
 
 returns-4 : tie.Need-returns-4
