@@ -1,0 +1,3 @@
+pub mod RestLaws
+pub mod GoingLaws
+pub mod FoundLaws
