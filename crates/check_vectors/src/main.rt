@@ -12,10 +12,7 @@ fn print_line(checked: Checked) {
             io::print_decimal(STDOUT_FILENO, n as u64);
         }
         Checked::Refused(x, at) => {
-            io::write_all(STDOUT_FILENO, b"refuse ");
-            io::print_decimal(STDOUT_FILENO, x.0 as u64);
-            io::write_all(STDOUT_FILENO, b" ");
-            io::print_decimal(STDOUT_FILENO, at as u64);
+            lines::print_refusal(x, at);
         }
     }
     io::write_all(STDOUT_FILENO, b"\n");
