@@ -1,6 +1,6 @@
 -- Laws of the item at a place, one for each answer. Assumes nothing.
 use Prim.Native.Nat.{ℕ, _+_, _*_, _≤_, _<_}
-use mathlib.Core.Path.{_≡_, refl, ap, _∙_}
+use mathlib.Core.Path.{_≡_, refl, sym, ap, _∙_}
 use mathlib.Core.List.{List, _∷_}
 use native.Mathlib.Omega.{arith}
 use lib.ListN.{length, getD}
@@ -10,11 +10,13 @@ use Rattle.format.specs.Packed.{nybbles}
 use Rattle.format.specs.Decoding.{Got, value, ends, mark, decode}
 use Rattle.format.specs.Rasters.{run, fourteen}
 use Rattle.format.specs.Reading.{numberOf, runAt, repeatAt, itemOf}
+use Rattle.format.proofs.Tests.{split}
 use Rattle.packed.specs.Answer.{from, toRead, readAt}
-use Rattle.packed.proofs.Part.{from-end, from-cons, from-length}
+use Rattle.packed.specs.declared.Read.the-variants.{Number}
+use Rattle.packed.proofs.Part.{from-end, from-cons, from-length, read-past, read-mark}
 use Rattle.refusals.specs.Names.{coded}
 use Rattle.items.specs.Items.{asRun, asRepeat, toItem}
-use Rattle.items.specs.declared.Item.the-variants.{Repeat, Fault}
+use Rattle.items.specs.declared.Item.the-variants.{Run, Repeat, Fault}
 
 -- What is read as a number, as a run and as a repeat.
 to-run : (s : List ℕ) (g : Got) → asRun (toRead s g) ≡ toItem s (numberOf g >>= λ t. ok (run (t .0), t .1))
@@ -55,3 +57,12 @@ module _ (s : List ℕ) (at f repeat : ℕ) where
     pub item-fourteen : 14 ≤ x → (x ≡ 15 → ⊥) → repeat ≤ 0 → asRepeat (readAt s (at + 1) f) ≡ toItem s (itemOf f repeat (from s at))
     unfolding itemOf readAt repeatAt
     item-fourteen l n p = to-repeat s (decode f (from s (at + 1))) ∙ rw (first, le-ltb x 14 l, le-ltb 0 repeat p, ne-eqb x 15 n) refl
+
+  -- A number of one or two nybbles is a run: no other nybble than a run's begins it.
+  pub item-short : (n next : ℕ) → f ≤ 13 → readAt s at f ≡ Number n next → Run n next ≡ toItem s (itemOf f repeat (from s at))
+  item-short n next l e =
+      split (2 * length s) at
+      (λ h. absurd (let z = read-past s at f h ∙ e in let z : _≡_ {A = ℕ} 0 1 = cc in omega arith))
+      (λ h. split 14 (getD (nybbles s) at 0)
+      (λ p. absurd (let z = read-mark s at f h (omega arith) (omega arith) ∙ e in let z : _≡_ {A = ℕ} 0 1 = cc in omega arith))
+      (λ p. ap asRun (sym e) ∙ item-run (getD (nybbles s) at 0) refl h p))

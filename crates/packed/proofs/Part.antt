@@ -1,7 +1,7 @@
 -- The nybbles of bytes from a place on, and what is read there, step by step.
 -- Assumes nothing.
 use Prim.Native.Nat.{ℕ, zero, suc, _+_, _-_, _*_, _≤_, _<_, min}
-use mathlib.Core.Path.{_≡_, refl, ap, ap₂, _∙_}
+use mathlib.Core.Path.{_≡_, refl, sym, ap, ap₂, _∙_, subst}
 use mathlib.Core.List.{List, [], _∷_}
 use native.Mathlib.Numerals.{add-one, sub-one}
 use native.Mathlib.Omega.{arith}
@@ -13,7 +13,7 @@ use Rattle.format.specs.Decoding.{value, ends, digits, zeros, shift, second, de
 use Rattle.format.proofs.PackedLaws.{length-nybbles, zeros-first, decode-first}
 use Rattle.packed.specs.declared.Read.{Read}
 use Rattle.packed.specs.declared.Read.the-variants.{Number, Ends, Mark}
-use Rattle.packed.specs.Answer.{from, cap, toRead, readAt, Skipped}
+use Rattle.packed.specs.Answer.{from, cap, toRead, readAt, Skipped, NotShort, IsShort}
 
 -- Digits are wanted, and there are none.
 pub digits-none : (l k : ℕ) → 0 < l → digits l k [] ≡ ends
@@ -183,11 +183,6 @@ module _ (s : List ℕ) where
     unfolding readAt toRead
     read-mark p r = rw (cons, decode-first f x (from s (at + 1)) (omega arith), lt-leb x f r, lt-leb x 13 p) refl
 
-    -- A second nybble is wanted, and there is none.
-    pub read-short : x ≤ 13 → f < x → 2 * length s ≤ at + 1 → Ends ≡ readAt s at f
-    unfolding readAt toRead second
-    read-short p r q = rw (cons, decode-first f x (from s (at + 1)) (omega arith), lt-leb x f r, le-leb x 13 p, from-end (at + 1) q) refl
-
     -- A number of two nybbles.
     pub read-two : x ≤ 13 → f < x → at + 1 < 2 * length s → getD (nybbles s) (at + 1) 0 < 16
         → (n k : ℕ) → n ≡ (x - f - 1) * 16 + getD (nybbles s) (at + 1) 0 + f + 1 → k ≡ at + 2 → Number n k ≡ readAt s at f
@@ -196,3 +191,73 @@ module _ (s : List ℕ) where
         let g′ : k ≡ at + 1 + 1 = omega arith in
         rw (cons, decode-first f x (from s (at + 1)) (omega arith), lt-leb x f r, le-leb x 13 p, from-cons (at + 1) q, g′)
         (number-at n ((x - f - 1) * 16 + getD (nybbles s) (at + 1) 0 + f + 1) (at + 1 + 1) (omega arith) (omega arith))
+
+-- ---- what `short_at` answers
+
+module _ (s : List ℕ) (at f : ℕ) where
+  -- None begins.
+  none-short : (next : ℕ) → NotShort f (from s at) → IsShort s at f (record { n = 0; next = next })
+  none-short next t = record { some = λ e. absurd (e refl); none = λ e. t }
+
+  -- At the end.
+  pub short-past : (next : ℕ) → 2 * length s ≤ at → IsShort s at f (record { n = 0; next = next })
+  short-past next h = none-short next (rw (from-end s at h) tt)
+
+  module _ (h : at < 2 * length s) (a : ℕ) (e : a ≡ getD (nybbles s) at 0) where
+    first : from s at ≡ a ∷ from s (at + 1)
+    first = rw e (from-cons s at h)
+
+    -- A nybble up to f: a zero begins no short number.
+    pub short-one : (next : ℕ) → a < 16 → a ≤ f → next ≡ at + 1 → IsShort s at f (record { n = a; next = next })
+    short-one next l m p =
+        record {
+          some = λ n. sym (read-one s at f h (positive a n e) (omega arith) (omega arith) a next e p);
+          none = λ z. rw (first, z) tt;
+        }
+      where
+        positive : (a : ℕ) → (a ≡ 0 → ⊥) → a ≡ getD (nybbles s) at 0 → 0 < getD (nybbles s) at 0
+        positive zero n e = absurd (n refl)
+        positive (suc a) n e = omega arith
+
+    -- 14 or 15.
+    pub short-mark : (next : ℕ) → 13 < a → f < a → IsShort s at f (record { n = 0; next = next })
+    short-mark next p q = none-short next (rw first (go a (from s (at + 1)) p q))
+      where
+        go : (a : ℕ) (ys : List ℕ) → 13 < a → f < a → NotShort f (a ∷ ys)
+        go zero ys p q = absurd (omega arith)
+        go (suc a) [] p q = q
+        go (suc a) (b ∷ ys) p q = p
+
+    -- A second nybble is wanted, and there is none.
+    pub short-alone : (next : ℕ) → f < a → 2 * length s ≤ at + 1 → IsShort s at f (record { n = 0; next = next })
+    short-alone next q k = none-short next (rw (first ∙ ap (λ (y : List ℕ). a ∷ y) (from-end s (at + 1) k)) (go a q))
+      where
+        go : (a : ℕ) → f < a → NotShort f (a ∷ [])
+        go zero q = absurd (omega arith)
+        go (suc a) q = q
+
+    -- Two nybbles.
+    pub short-two : (b n next : ℕ) → a ≤ 13 → f < a → at + 1 < 2 * length s → b ≡ getD (nybbles s) (at + 1) 0 → b < 16 → n ≡ (a - f - 1) * 16 + b + f + 1 → next ≡ at + 2
+        → IsShort s at f (record { n = n; next = next })
+    short-two b n next l m k q i p z =
+        record {
+          some = λ _. sym (read-two s at f h (omega arith) (omega arith) k (omega arith) n next (rw (← e, ← q) p) z);
+          none = λ y. absurd (omega arith);
+        }
+
+    -- Where none begins, and it is neither a zero nor a mark, the nybbles end.
+    pub read-alone : NotShort f (from s at) → 0 < a → a ≤ 13 → Ends ≡ readAt s at f
+    unfolding readAt toRead second
+    read-alone t p q = go (from s (at + 1)) refl
+      where
+        alone : (a : ℕ) → NotShort f (a ∷ []) → 0 < a → f < a
+        alone zero t p = absurd (omega arith)
+        alone (suc a) t p = t
+
+        marked : (a b : ℕ) (ys : List ℕ) → NotShort f (a ∷ b ∷ ys) → 0 < a → a ≤ 13 → ⊥
+        marked zero b ys t p q = omega arith
+        marked (suc a) b ys t p q = omega arith
+
+        go : (ys : List ℕ) → from s (at + 1) ≡ ys → Ends ≡ readAt s at f
+        go [] z = rw (first, z, decode-first f a [] p, lt-leb a f (alone a (subst (NotShort f) (first ∙ ap (λ (y : List ℕ). a ∷ y) z) t) p), le-leb a 13 q) refl
+        go (b ∷ ys) z = absurd (marked a b ys (subst (NotShort f) (first ∙ ap (λ (y : List ℕ). a ∷ y) z) t) p q)

@@ -4,7 +4,7 @@ ghost use mathlib.Core.Path.{_≡_};
 ghost use lib.ListN.{length};
 ghost use Rattle.format.specs.Packed.{limit};
 ghost use Rattle.format.specs.Decoding.{digits, zeros, shift};
-ghost use Rattle.packed.specs.Answer.{from, toRead, readAt, Skipped};
+ghost use Rattle.packed.specs.Answer.{from, toRead, readAt, Skipped, IsShort};
 
 // What is read: a number, 65,537 for any above 65,536, and the place of the next nybble; that the nybbles end inside it; that a
 // 14 or 15 stands where it must begin.
@@ -12,6 +12,12 @@ pub enum Read {
     Number(usize, usize),
     Ends,
     Mark,
+}
+
+// A number of one or two nybbles and the place of the next; n is 0 where none begins. Most numbers are such.
+pub struct Short {
+    pub n: usize,
+    pub next: usize,
 }
 
 // Above every limit: no run or repeat of a raster is so long.
@@ -104,29 +110,51 @@ fn read_large(s: &[u8], at: usize, m: usize) -> Read
     read_digits(s, j + 1, j - at + 1, a, m)
 }
 
+// The packed number of one or two nybbles whose first is at `at`, for f.
+pub fn short_at(s: &[u8], at: usize, f: usize) -> Short
+    requires { ⌜ f ≤ 13 ⌝ }
+    ensures { λ r. ⌜ IsShort (now (s .entry)) at f r ⌝ }
+{
+    let end = 2 * s.len();
+    if end <= at {
+        return Short { n: 0, next: at };
+    }
+    let a = nybbles::nybble(s, at);
+    if a <= f {
+        return Short { n: a, next: at + 1 };
+    }
+    if 13 < a {
+        return Short { n: 0, next: at };
+    }
+    let next = at + 1;
+    if end <= next {
+        return Short { n: 0, next };
+    }
+    let b = nybbles::nybble(s, next);
+    Short {
+        n: (a - f - 1) * 16 + b + f + 1,
+        next: next + 1,
+    }
+}
+
 // The packed number whose first nybble is at `at`, for f.
 pub fn read_number(s: &[u8], at: usize, f: usize) -> Read
     requires { ⌜ f ≤ 13 ⌝ }
     ensures { λ r. ⌜ r ≡ readAt (now (s .entry)) at f ⌝ }
 {
-    let end = 2 * s.len();
-    if end <= at {
+    let short = short_at(s, at, f);
+    if short.n != 0 {
+        return Read::Number(short.n, short.next);
+    }
+    if 2 * s.len() <= at {
         return Read::Ends;
     }
-    let a = nybbles::nybble(s, at);
-    if a == 0 {
+    let x = nybbles::nybble(s, at);
+    if x == 0 {
         return read_large(s, at + 1, limit_of(f));
     }
-    if a <= f {
-        return Read::Number(a, at + 1);
-    }
-    if 13 < a {
+    if 13 < x {
         return Read::Mark;
     }
-    let next = at + 1;
-    if end <= next {
-        return Read::Ends;
-    }
-    let b = nybbles::nybble(s, next);
-    Read::Number((a - f - 1) * 16 + b + f + 1, next + 1)
+    Read::Ends
 }
