@@ -23,7 +23,7 @@ use Rattle.find.proofs.FoundLaws.{Stood}
 use Rattle.glyph.specs.Answer.{inNumbers}
 use Rattle.glyph.specs.Packets.{IsDrawn, IsPixels}
 use Rattle.glyph.specs.declared.Drawn.{Drawn}
-use Rattle.glyph.specs.declared.Drawn.the-variants.{Measured, Refused}
+use Rattle.glyph.specs.declared.Drawn.the-variants.{Refused}
 
 -- ---- an accepted font
 

@@ -1,17 +1,12 @@
 -- Laws of the piece at a place, one for each answer. Assumes nothing.
-use Prim.Native.Nat.{ℕ, _+_, _-_, _≤_, _<_}
+use Prim.Native.Nat.{ℕ, _<_}
 use mathlib.Core.Path.{_≡_, refl, sym, ap, _∙_, subst}
 use mathlib.Core.Bool.{Bool, true, false}
-use mathlib.Core.List.{List, _∷_, _++_, append-assoc}
-use native.Mathlib.Omega.{arith}
-use lib.ListN.{length, take, drop, getD, length-append, take-append-drop}
-use lib.Seq.{drop-append-seam, take-append-seam}
-use borrow.Author.Tests.{ltb-true}
-use Rattle.format.specs.Limits.{isCode}
+use mathlib.Core.List.{List}
+use lib.ListN.{length, drop, getD}
 use Rattle.format.specs.Refusals.{codeTwice, Result, ok, fault, _>>=_, need}
-use Rattle.format.specs.Numbers.{Bytes, fieldBytes}
+use Rattle.format.specs.Numbers.{Bytes}
 use Rattle.format.specs.Pieces as F
-use Rattle.format.specs.Pieces.{kinds, fields, flag, bytesOf}
 use Rattle.format.specs.Rasters.{Item}
 use Rattle.format.specs.Cut.{packets}
 use Rattle.format.specs.Reading.{items}

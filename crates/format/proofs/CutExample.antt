@@ -1,21 +1,21 @@
 -- A font that has a cut, with a raster of each kind, a repeat, commands, and codes in falling order: `Cut` is met, part by part.
 -- Assumes nothing.
-use Prim.Native.Nat.{ℕ, zero, suc, _+_, _*_, _/_, _%_, _^_, _≤_, _<_}
-use mathlib.Core.Path.{_≡_, refl, sym, ap, _∙_}
-use mathlib.Core.List.{List, [], _∷_, _++_}
+use Prim.Native.Nat.{ℕ, _≤_}
+use mathlib.Core.Path.{_≡_, refl, _∙_}
+use mathlib.Core.List.{List, [], _∷_}
 use mathlib.Core.Bool.{Bool, true, false, cond, _&&_}
 use native.Mathlib.Omega.{arith}
 use lib.Dec.{eqb, ltb}
-use lib.IntN.{ℤ, pos, negsuc}
-use lib.ListN.{length, replicate}
+use lib.IntN.{pos, negsuc}
+use lib.ListN.{length}
 use borrow.Author.Tests.{ltb-true, ne-eqb}
 use Rattle.format.specs.Limits.{inLimits, isCode}
 use Rattle.format.specs.Lists.{elem}
 use Rattle.format.specs.Numbers.{Bytes, bytes, held, twos, allHeld, fieldBytes}
 use Rattle.format.specs.Measures.{pixels}
-use Rattle.format.specs.Pieces.{Preamble, preambleBytes, short, Packet, flag, fits, PacketOk, Piece, special, numeric, noop, packet, bytesOf}
+use Rattle.format.specs.Pieces.{preambleBytes, short, Packet, flag, fits, PacketOk, special, numeric, noop, packet, bytesOf}
 use Rattle.format.specs.Packed.{nybbles, hex, zerosF, zerosOf, large, encode}
-use Rattle.format.specs.Rasters.{Item, run, fifteen, written, writings, spare, string, repeats, rows, sum, sent, joined, picture, RunRaster, bitsOf, bits, BitRaster, Draws, blank, inBits, inRuns}
+use Rattle.format.specs.Rasters.{Item, run, fifteen, written, writings, spare, string, repeats, rows, sum, sent, joined, picture, RunRaster, bitsOf, bits, blank, inBits, inRuns}
 use Rattle.format.specs.Cut.{flat, packets, codes, Parts, join, Cut}
 use Rattle.format.proofs.Tests.{test, and-true}
 

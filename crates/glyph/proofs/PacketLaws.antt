@@ -1,5 +1,5 @@
 -- Laws of the packet at a place: the buffer is too short, or holds its pixels. Assumes nothing.
-use Prim.Native.Nat.{ℕ, _+_, _-_, _*_, _≤_, _<_}
+use Prim.Native.Nat.{ℕ, _-_, _*_, _≤_, _<_}
 use mathlib.Core.Path.{_≡_, refl, sym, ap, _∙_, subst}
 use mathlib.Core.List.{List, _++_}
 use native.Mathlib.Omega.{arith}
@@ -22,7 +22,6 @@ use Rattle.packet.proofs.StandingLaws.{stands-is, stands-raster}
 use Rattle.measures.specs.Said.{said}
 use Rattle.measures.specs.declared.Measures.{Measures}
 use Rattle.glyph.specs.Answer.{inNumbers}
-use Rattle.glyph.specs.declared.Drawn.{Drawn}
 use Rattle.glyph.specs.declared.Drawn.the-variants.{Measured, Refused}
 
 module _ (font : List ℕ) (b : Bytes font) (at : ℕ) (x : Outline) (t : Drawable font at x) (p : Packet) (rest : List ℕ) (e : step (drop at font) ≡ ok (piece (packet p) rest)) where

@@ -1,13 +1,12 @@
 -- What `read_number` answers at the edges of its input: an empty slice, a place at or past the end, a number that only begins, one of
 -- 60,000 digits. Assumes nothing.
-use Prim.Native.Nat.{ℕ, zero, suc, _+_, _-_, _*_, _^_, _≤_, _<_, min}
+use Prim.Native.Nat.{ℕ, zero, suc, _+_, _*_, _≤_}
 use mathlib.Core.Path.{_≡_, refl, sym, ap, ap₂, _∙_}
 use mathlib.Core.List.{List, [], _∷_, _++_}
 use native.Mathlib.Nat.{pow-le-pow-right}
 use native.Mathlib.Omega.{arith}
 use lib.ListN.{length, replicate, length-append, length-replicate}
-use Rattle.format.specs.Packed.{nybbles, limit}
-use Rattle.format.specs.Decoding.{decode}
+use Rattle.format.specs.Packed.{nybbles}
 use Rattle.format.proofs.PackedEdges.{zeros-alone, many-digits}
 use Rattle.packed.specs.declared.Read.the-variants.{Number, Ends}
 use Rattle.packed.specs.Answer.{from, toRead, readAt}

@@ -11,7 +11,6 @@ use Rattle.format.specs.Refusals.{ok}
 use Rattle.format.specs.Numbers.{Bytes, fieldBytes}
 use Rattle.format.specs.Pieces as F
 use Rattle.format.specs.Pieces.{kinds, fields, flag, bytesOf}
-use Rattle.format.specs.Verdict.{piece, step}
 use Rattle.format.proofs.FieldLaws.{bytes-drop}
 use Rattle.format.proofs.PieceLaws as L
 use Rattle.format.proofs.PieceLaws.{Is, step-is}

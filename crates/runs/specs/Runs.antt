@@ -1,13 +1,10 @@
 -- What the functions of this crate need and leave. Assumes nothing: these are definitions.
 use Prim.Native.Nat.{ℕ, suc, _+_, _-_, _*_}
-use mathlib.Core.Path.{_≡_}
 use mathlib.Core.Bool.{cond}
 use mathlib.Core.List.{List, _++_}
 use lib.Dec.{ltb}
 use lib.ListN.{take, drop, replicate}
-use Rattle.format.specs.Refusals.{ok}
-use Rattle.format.specs.Rasters.{Item}
-use Rattle.format.specs.Reading.{State, items}
+use Rattle.format.specs.Reading.{State}
 use Rattle.fill.specs.Rows.{filled, times}
 
 -- The place of the next pixel.
