@@ -36,3 +36,13 @@ pub mod FaultTheorems
 pub mod RasterFaultConverse
 pub mod PieceFaultConverse
 pub mod FaultConverse
+pub mod HalfLaws
+pub mod ChoiceLaws
+pub mod CountLaws
+pub mod KeptLaws
+pub mod CountTheorems
+pub mod FormLaws
+pub mod FormEdges
+pub mod SomeLaws
+pub mod ByteLaws
+pub mod PackTheorems

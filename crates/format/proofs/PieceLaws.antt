@@ -85,6 +85,9 @@ flag-parts p o =
     let n = packetLength p in
     flag-apart (p .f) (formBits (p .form) n) (p .black) (bits-small (p .form) n (fits-length p o))
 
+pub flag-below : (p : Packet) → PacketOk p → flag p < 240
+flag-below p o = omega (arith, o .f, flag-parts p o .f)
+
 pub flag-form : (p : Packet) → PacketOk p → formOf (flag p) ≡ p .form
 flag-form p o = form-is (p .form) (flag p) (bits-length (p .form) (flag p % 8) (packetLength p) (fits-length p o) (flag-parts p o .low))
 
@@ -159,7 +162,7 @@ step-piece (numeric xs) r o = numeric-found xs r o
 step-piece noop r o = refl
 step-piece (packet p) r o =
     let e = flag-parts p o in
-    rw (lt-ltb (flag p) 240 (omega (arith, o .f, e .f)), flag-form p o, append-assoc (fieldBytes (kinds (p .form)) (fields p)) (p .raster) r)
+    rw (lt-ltb (flag p) 240 (flag-below p o), flag-form p o, append-assoc (fieldBytes (kinds (p .form)) (fields p)) (p .raster) r)
     (packet-found p (flag p) r o e)
 
 -- ---- a piece that is found is what stands there

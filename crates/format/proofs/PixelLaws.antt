@@ -105,7 +105,7 @@ unfolding allPixels
 pixels-left [] ys e = refl
 pixels-left (x ∷ xs) ys e = let t = and-true (ltb x 2) (allPixels (xs ++ ys)) e in true-and (t .0) (pixels-left xs ys (t .1))
 
-pixels-cut : (n : ℕ) (xs : List ℕ) → allPixels xs ≡ true → (allPixels (take n xs) ≡ true) × (allPixels (drop n xs) ≡ true)
+pub pixels-cut : (n : ℕ) (xs : List ℕ) → allPixels xs ≡ true → (allPixels (take n xs) ≡ true) × (allPixels (drop n xs) ≡ true)
 unfolding allPixels
 pixels-cut zero xs e = (refl, e)
 pixels-cut (suc n) [] e = (refl, refl)

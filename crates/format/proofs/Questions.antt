@@ -19,7 +19,7 @@ use Rattle.format.specs.Verdict.{atLeast, formOf, rasterAt, packetAt, sp
 use Rattle.format.specs.Drawing.{drawnBy, rasterPixels, pixelsOf, find, drawn, drawFrom, draw, drawAnswer, drawBuffer}
 use Rattle.format.specs.Counts.{mixed, above, kept, placed, lastOf, strung, grow, runs, before, listed, counts}
 use Rattle.format.specs.Choice.{nybbleCount, leastOf, fewest, chosen, halves, byteOf, bitBytes, rasterOf, firstBlack, inForm, holds, firstForm}
-use Rattle.format.specs.Packing.{allPixels, packetFor, packed, pack, packAnswer, packBuffer}
+use Rattle.format.specs.Packing.{allPixels, choiceIn, packetFor, packed, pack, packAnswer, packBuffer}
 
 pub data Question : Type 0 where
   -- the packed number that nybbles are, for f
@@ -75,7 +75,7 @@ packReply (refuses n place) = refusal n place
 
 -- The definitions' reply. All that they say computes where `reply` is unfolded.
 unfoldable pub reply : Question → Reply
-unfolding readReply checkReply count drawReply packReply inLimits withinLimits isCode all elem same told answers _>>=_ need answerAt bytes number held twos valueOf allHeld fieldBytes readFields toScaled wholePixels sameScaled flag fits measures bytesOf nybbles hex zerosF zerosOf large encode digits zeros shift second decode written writings string repeats rows sum sent joined picture bitsOf bits packets codes numberOf runAt repeatAt itemOf afterRun afterRepeat afterItem finish turn walk reading bitsRead noneRead items atLeast formOf rasterAt packetAt specialAt numericAt step checked orElse prepend isNil ending next onwardF onward preambleAt begin verdict check drawnBy rasterPixels pixelsOf find drawn drawFrom draw mixed above kept placed lastOf strung grow runs before listed counts nybbleCount leastOf fewest chosen halves byteOf bitBytes rasterOf firstBlack inForm holds firstForm allPixels packetFor packed pack lent drawAnswer drawBuffer packAnswer packBuffer
+unfolding readReply checkReply count drawReply packReply inLimits withinLimits isCode all elem same told answers _>>=_ need answerAt bytes number held twos valueOf allHeld fieldBytes readFields toScaled wholePixels sameScaled flag fits measures bytesOf nybbles hex zerosF zerosOf large encode digits zeros shift second decode written writings string repeats rows sum sent joined picture bitsOf bits packets codes numberOf runAt repeatAt itemOf afterRun afterRepeat afterItem finish turn walk reading bitsRead noneRead items atLeast formOf rasterAt packetAt specialAt numericAt step checked orElse prepend isNil ending next onwardF onward preambleAt begin verdict check drawnBy rasterPixels pixelsOf find drawn drawFrom draw mixed above kept placed lastOf strung grow runs before listed counts nybbleCount leastOf fewest chosen halves byteOf bitBytes rasterOf firstBlack inForm holds firstForm allPixels choiceIn packetFor packed pack lent drawAnswer drawBuffer packAnswer packBuffer
 reply (reads f xs) = readReply (decode f xs)
 reply (writes f n) = list (encode f n)
 reply (size f w h b) = it (nybbleCount (counts (rows w h b)) f)

@@ -3,7 +3,7 @@
 use Prim.Native.Nat.{ℕ, zero, suc, _+_, _-_, _/_, _≤_, _<_}
 use mathlib.Core.Path.{_≡_, refl, sym, ap, _∙_, fun-ext}
 use mathlib.Core.List.{List, [], _∷_, _++_}
-use mathlib.Core.Bool.{Bool, true, false, cond}
+use mathlib.Core.Bool.{cond}
 use native.Mathlib.Nat.{add-div-left, div-eq-of-lt, add-assoc, add-zero}
 use native.Mathlib.Numerals.{add-one}
 use native.Mathlib.Omega.{arith}
@@ -11,6 +11,7 @@ use lib.Dec.{eqb, eqb·suc-suc, eqb·zero-suc}
 use lib.ListN.{length, take, drop, replicate, length-append, length-replicate}
 use lib.Seq.{take-at, drop-at}
 use borrow.Author.Tests.{ne-eqb}
+use Rattle.format.proofs.Tests.{cond-same}
 use Rattle.format.proofs.ItemLaws.{had}
 use Rattle.format.specs.Rasters.{Item, run, pixelsIn, repeat, repeats, rows, sum, sent, Grid}
 
@@ -62,10 +63,6 @@ module _ (w k : ℕ) (of : ℕ → List ℕ) (row s : List ℕ) (e : length row 
       }
 
 -- ---- the repeats that items give
-
-cond-same : (b : Bool) (x : List ℕ) → cond b x x ≡ x
-cond-same true x = refl
-cond-same false x = refl
 
 eqb-suc : (a b : ℕ) → eqb (a + 1) (suc b) ≡ eqb a b
 eqb-suc a b = rw (add-one, eqb·suc-suc) refl

@@ -38,6 +38,10 @@ dotPacket = 0xD8 ∷ 9 ∷ 3 ∷ 0 ∷ 0 ∷ 0 ∷ 0 ∷ 1 ∷ 1 ∷ 0 ∷ 0 ∷
 abbrev dot : ℕ → Reply
 dot code = character (pos code ∷ pos 1 ∷ pos 1 ∷ pos 0 ∷ pos 0 ∷ pos 0 ∷ pos 0 ∷ pos 0 ∷ []) (1 ∷ [])
 
+-- A row of ten black and ten white pixels.
+abbrev blackWhite : List ℕ
+blackWhite = replicate 10 1 ++ replicate 10 0
+
 -- The letter before the dot, with commands among them.
 abbrev falling : List ℕ
 falling = 240 ∷ 1 ∷ 7 ∷ (letterPacket ++ (244 ∷ (four 1 2 3 4 ++ dotPacket)))
@@ -97,6 +101,9 @@ rows =
     -- dx of 2³¹ with a dy that only the long form holds; dx of 65,536 whole pixels
     ∷ (packs (moving (pos 2147483648) (pos 1)) letter 0, refusal 20 0) ∷ (packs (moving (pos 4294967296) (pos 0)) letter 0, refusal 20 0)
     ∷ (packs letterMeasures letter 28, refusal 17 0)
+    -- a repeat before a first black run, for the imaginary pixel before it is white; black bit 0 where the bits are fewer
+    ∷ (packs (plain (pos 20) (pos 2)) (blackWhite ++ blackWhite) 13, list (short 0xD8 20 2 (0xFA ∷ 0xA0 ∷ [])))
+    ∷ (packs (plain (pos 2) (pos 2)) (1 ∷ 0 ∷ 1 ∷ 0 ∷ []) 12, list (short 0xE0 2 2 (0xA0 ∷ [])))
     -- in order: w = h = 0; an escapement that is no whole number of pixels, in the long form; a length of 256 + 8 in the short form
     ∷ (packs (plain (pos 0) (pos 0)) [] 11, list (short 0xE0 0 0 []))
     ∷ (packs (moving (pos 1638401) (negsuc 0)) letter 55, list (longLetter (drop 11 letterPacket)))

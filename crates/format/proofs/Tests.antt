@@ -2,7 +2,7 @@
 use Prim.Native.Nat.{ℕ, _≤_, _<_}
 use mathlib.Core.Path.{_≡_, refl, sym}
 use mathlib.Core.Logic.{_⊎_, inl, inr}
-use mathlib.Core.Bool.{Bool, true, false, _&&_, _||_}
+use mathlib.Core.Bool.{Bool, true, false, cond, _&&_, _||_}
 use native.Mathlib.Nat.{lt-of-not-le}
 use native.Mathlib.Decide.{decLe}
 use native.Mathlib.Omega.{arith}
@@ -17,6 +17,11 @@ split a b f g = elim (decLe a b) [ yes h ↦ f h | no h ↦ g (lt-of-not-le h) ]
 pub test {ℓ} : {X : Type ℓ} (b : Bool) → (b ≡ true → X) → (b ≡ false → X) → X
 test true f g = f refl
 test false f g = g refl
+
+-- Where both answers lead to the same, the test does not matter.
+pub cond-same : {A : Type 0} (b : Bool) (x : A) → cond b x x ≡ x
+cond-same true x = refl
+cond-same false x = refl
 
 -- Both of two tests hold, taken apart and put together.
 pub and-true : (a b : Bool) → a && b ≡ true → (a ≡ true) × (b ≡ true)

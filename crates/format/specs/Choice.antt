@@ -1,8 +1,9 @@
 -- What packing chooses (01, What packing chooses): the raster with its f and black bit, and the form.
 -- Assumes nothing: these are definitions.
-use Prim.Native.Nat.{ℕ, zero, suc, _+_, _*_, _/_}
+use Prim.Native.Nat.{ℕ, zero, suc, _+_, _*_, _/_, _≤_, _<_}
+use mathlib.Core.Path.{_≡_}
 use mathlib.Core.List.{List, [], _∷_}
-use mathlib.Core.Bool.{Bool, false, cond, _&&_}
+use mathlib.Core.Bool.{Bool, true, false, cond, _&&_}
 use lib.Dec.{eqb, leb, ltb}
 use lib.IntN.{natAbs}
 use lib.ListN.{length, drop, getD}
@@ -22,6 +23,12 @@ unfoldable pub leastOf : (ℕ → ℕ) → ℕ → ℕ
 leastOf g zero = 0
 leastOf g (suc k) = let b = leastOf g k in cond (leb (g (suc k)) (g b)) (suc k) b
 
+-- b is the place from 0 to k where g is least, the largest of equal ones.
+pub record Least (g : ℕ → ℕ) (k b : ℕ) : Type 0 where
+  pub inside : b ≤ k
+  pub least : (i : ℕ) → i ≤ k → g b ≤ g i
+  pub largest : (i : ℕ) → b < i → i ≤ k → g b < g i
+
 -- Of f = 0 to 13 the one with fewest nybbles; of equal ones, the largest.
 unfoldable pub fewest : List Item → ℕ
 fewest is = leastOf (nybbleCount is) 13
@@ -40,7 +47,7 @@ halves [] = []
 halves (a ∷ []) = (a * 16) ∷ []
 halves (a ∷ b ∷ xs) = (a * 16 + b) ∷ halves xs
 
--- The byte of the next k pixels after those that came to v, most significant first; pixels that lack are zero bits.
+-- The byte of the next k pixels after those that came to v, most significant first; pixels that are missing are zero bits.
 unfoldable pub byteOf : ℕ → ℕ → List ℕ → ℕ
 byteOf v zero xs = v
 byteOf v (suc k) [] = byteOf (2 * v) k []
@@ -93,3 +100,14 @@ unfoldable pub firstForm : Measures → (Form → Packet) → Result Packet
 firstForm m p =
     cond (holds m (p short)) (ok (p short))
     (cond (holds m (p extended)) (ok (p extended)) (cond (holds m (p long)) (ok (p long)) (fault noForm)))
+
+-- Short, extended, long.
+abbrev pub order : Form → ℕ
+order short = 0
+order extended = 1
+order long = 2
+
+-- k is the first form whose packet holds.
+pub record FirstHeld (m : Measures) (p : Form → Packet) (k : Form) : Type 0 where
+  pub held : holds m (p k) ≡ true
+  pub earlier : (j : Form) → order j < order k → holds m (p j) ≡ false

@@ -54,7 +54,7 @@ strung p (row r n ∷ ks) = placed p n r ++ strung (lastOf p r) ks
 pub data Run : Type 0 where
   stretch : ℕ → ℕ → ℕ → Run
 
--- A pixel before runs: the first run grows, or a new one begins.
+-- A pixel before runs: the first run grows, or a new one begins. A repeat stands only where the colour changes, so none stands inside a run.
 unfoldable pub grow : Pixel → List Run → List Run
 grow (pixel x m) [] = stretch x 1 m ∷ []
 grow (pixel x m) (stretch y k n ∷ rs) = cond (eqb x y) (stretch x (k + 1) m ∷ rs) (stretch x 1 m ∷ stretch y k n ∷ rs)
@@ -75,6 +75,10 @@ unfoldable pub listed : List Run → List Item
 listed [] = []
 listed (stretch x k n ∷ rs) = before n (run k ∷ listed rs)
 
--- The count list, with an imaginary white pixel before the very first.
+-- The imaginary pixel before the very first is white.
+abbrev pub imaginary : ℕ
+imaginary = 0
+
+-- The count list.
 unfoldable pub counts : List (List ℕ) → List Item
-counts rows = listed (runs (strung 0 (kept rows)))
+counts rows = listed (runs (strung imaginary (kept rows)))
