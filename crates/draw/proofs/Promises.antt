@@ -9,7 +9,7 @@ use native.Mathlib.Omega.{arith}
 use lib.IntN.{ℤ}
 use lib.ListN.{length, drop}
 use Rattle.format.specs.Limits.{most}
-use Rattle.format.specs.Refusals.{Refusal, noSuchCode, noRoom, Answer, gives, refused, answers, lent, Told, says, refuses, told}
+use Rattle.format.specs.Refusals.{Refusal, noSuchCode, noRoom, Answer, gives, refused, answers, lent, says, refuses, told}
 use Rattle.format.specs.Numbers.{Bytes}
 use Rattle.format.specs.Measures as F
 use Rattle.format.specs.Pieces.{Packet, Piece, PieceOk, measures}
@@ -50,16 +50,17 @@ one-measures m n e =
     )
     refl
 
-one-number : (r t : Drawn) → inNumbers r ≡ inNumbers t → r ≡ t
+pub one-number : (r t : Drawn) → inNumbers r ≡ inNumbers t → r ≡ t
 unfolding inNumbers
 one-number (Measured m) (Measured n) e = let z : M.said m ≡ M.said n = cc in ap Measured (one-measures m n z)
 one-number (Measured m) (Refused x p) e = absurd (let z : _≡_ {A = ℕ} 0 1 = cc in omega arith)
 one-number (Refused x p) (Measured n) e = absurd (let z : _≡_ {A = ℕ} 0 1 = cc in omega arith)
 one-number (Refused x p) (Refused y q) e = let z : x .0 ≡ y .0 = cc in let i : p ≡ q = cc in rw (z, i) refl
 
--- Any two answers that the promise allows are equal. (It says the buffer itself.)
-pub one-answer : (s : List ℕ) (code : ℕ) (buffer : List ℕ) (r t : Drawn) → inNumbers r ≡ told (drawAnswer s code buffer) → inNumbers t ≡ told (drawAnswer s code buffer) → r ≡ t
-one-answer s code buffer r t e f = one-number r t (e ∙ sym f)
+-- Any two answers that the promise allows are equal, and so are the buffers that it allows.
+pub one-answer : (s : List ℕ) (code : ℕ) (buffer : List ℕ) (r t : Drawn) (after after′ : List ℕ)
+    → inNumbers r ≡ told (drawAnswer s code buffer) → after ≡ drawBuffer s code buffer → inNumbers t ≡ told (drawAnswer s code buffer) → after′ ≡ drawBuffer s code buffer → (r ≡ t) × (after ≡ after′)
+one-answer s code buffer r t after after′ e o f q = (one-number r t (e ∙ sym f), o ∙ sym q)
 
 -- ---- what it says
 

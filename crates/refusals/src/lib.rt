@@ -37,4 +37,10 @@ impl Refusal {
     pub const NO_SUCH_CODE: Refusal = Refusal(16);
 
     pub const NO_ROOM: Refusal = Refusal(17);
+
+    pub const BITMAP_OUTSIDE_LIMITS: Refusal = Refusal(18);
+
+    pub const BAD_BITMAP: Refusal = Refusal(19);
+
+    pub const NO_FORM: Refusal = Refusal(20);
 }
