@@ -1,0 +1,3 @@
+pub mod LengthLaws
+pub mod TotalLaws
+pub mod ChosenLaws
