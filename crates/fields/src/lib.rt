@@ -18,10 +18,11 @@ fn wide(x: u8) -> u64
 
 // How many values k bytes have.
 pub fn values_of(k: usize) -> u64
-    requires { ⌜ (1 ≤ k) × (k ≤ 4) ⌝ }
+    requires { ⌜ k ≤ 4 ⌝ }
     ensures { λ r. ⌜ r ≡ 256 ^ k ⌝ }
 {
     match k {
+        0 => 1,
         1 => 256,
         2 => 65536,
         3 => 16777216,
