@@ -1,0 +1,4 @@
+pub mod TestLaws
+pub mod PacketLaws
+pub mod CallLaws
+pub mod Promises
