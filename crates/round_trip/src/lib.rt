@@ -1,0 +1,1 @@
+// The round trip over the public calls: a theorem alone, see proofs/.
