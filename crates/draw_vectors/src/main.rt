@@ -1,30 +1,10 @@
 // The drawer run on outside cases: standard input holds fonts, each behind the first and the last code to draw, the room and its length
 // in four bytes each; a line is printed for each code, `ok CODE W H TFM DX DY HOFF VOFF MARK` or `refuse NUMBER PLACE`, and at its end
 // `touched` if a byte was written that must stay.
-ghost use mathlib.Core.Path.{_≡_};
-ghost use lib.ListN.{length};
 use glyph::Drawn;
 use libc::STDIN_FILENO;
 use libc::STDOUT_FILENO;
 use measures::Measures;
-
-// What stands in the buffer before each call.
-const OLD: u8 = 170;
-
-// The most room of a case.
-const ROOM: usize = 65600;
-
-// Says so if a byte from `at` on is not the old one.
-fn print_touched(pixels: &[u8], at: usize) {
-    let mut i = at;
-    while i < pixels.len() {
-        if pixels[i] != OLD {
-            io::write_all(STDOUT_FILENO, b" touched");
-            return;
-        }
-        i += 1;
-    }
-}
 
 // A number behind a space.
 fn print_next(n: i64) {
@@ -45,59 +25,29 @@ fn print_measures(m: Measures) {
     print_next(m.voff);
 }
 
-// The pixels of w by h, as far as a buffer holds them.
-fn area(w: u64, h: u64) -> usize {
-    if 65536 < w {
-        return 0;
-    }
-    if 65536 < h {
-        return 0;
-    }
-    (w * h) as usize
-}
-
-// The mark of the first n pixels, and whether more was written.
-fn print_pixels(pixels: &[u8], n: usize) {
-    if pixels.len() < n {
-        return;
-    }
-    io::write_all(STDOUT_FILENO, b" ");
-    io::print_decimal(STDOUT_FILENO, lines::mark_of(&pixels[..n]) as u64);
-    print_touched(pixels, n);
-}
-
 // The line of an answer.
 fn print_line(drawn: Drawn, pixels: &[u8]) {
     match drawn {
         Drawn::Measured(m) => {
             print_measures(m);
-            print_pixels(pixels, area(lines::magnitude(m.w), lines::magnitude(m.h)));
+            lines::print_marked(
+                pixels,
+                lines::area(sign::magnitude(m.w), sign::magnitude(m.h)),
+            );
         }
         Drawn::Refused(x, at) => {
             lines::print_refusal(x, at);
-            print_touched(pixels, 0);
+            lines::print_touched(pixels, 0);
         }
     }
     io::write_all(STDOUT_FILENO, b"\n");
 }
 
-// The buffer before each call, the old byte everywhere. Lending a part of it needs its length only.
-fn old_pixels() -> [u8; ROOM]
-    ensures { λ r. ⌜ 65600 ≡ length r ⌝ }
-{
-    [OLD; ROOM]
-}
-
-// The line of a case that is cut short, or that asks for too much room.
-fn print_bad() {
-    io::write_all(STDOUT_FILENO, b"bad case\n");
-}
-
 // A code of a font, drawn into a buffer of so much room.
 fn draw_one(font: &[u8], code: usize, room: usize) {
-    let mut pixels = old_pixels();
-    if ROOM < room {
-        print_bad();
+    let mut pixels = lines::old_bytes();
+    if lines::ROOM < room {
+        lines::print_bad();
         return;
     }
     let drawn = draw::draw(font, code, &mut pixels[..room]);
@@ -119,7 +69,7 @@ fn draw_each(cases: &[u8]) {
     let mut at: usize = 0;
     while at < cases.len() {
         if cases.len() - at < 16 {
-            print_bad();
+            lines::print_bad();
             return;
         }
         let first = fields::number_at(cases, at, 4) as usize;
@@ -128,7 +78,7 @@ fn draw_each(cases: &[u8]) {
         let n = fields::number_at(cases, at + 12, 4) as usize;
         let begin = at + 16;
         if cases.len() - begin < n {
-            print_bad();
+            lines::print_bad();
             return;
         }
         let end = begin + n;

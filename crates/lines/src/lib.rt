@@ -1,26 +1,23 @@
-// What the programs print: signed numbers, refusals, and the mark that stands for many bytes.
+// What the programs print: signed numbers, refusals, and the mark that stands for many bytes; and the buffer that they lend.
 ghost use mathlib.Core.Path.{_≡_};
-ghost use lib.IntN.{natAbs};
+ghost use lib.ListN.{length};
 use libc::STDOUT_FILENO;
 use refusals::Refusal;
 
-// A number without its sign. The least of 64 bits has no negative, so 1 goes aside first.
-pub fn magnitude(n: i64) -> u64
-    ensures { λ r. ⌜ r ≡ natAbs n ⌝ }
-{
-    if n < 0 {
-        (0 - (n + 1)) as u64 + 1
-    } else {
-        n as u64
-    }
-}
+// What stands in a lent buffer before a call.
+const OLD: u8 = 170;
+
+// The most room of a case.
+pub const ROOM: usize = 65600;
 
 // A number in decimal, behind its sign if it is negative.
 pub fn print_signed(n: i64) {
     if n < 0 {
         io::write_all(STDOUT_FILENO, b"-");
+        io::print_decimal(STDOUT_FILENO, sign::magnitude(n) + 1);
+    } else {
+        io::print_decimal(STDOUT_FILENO, sign::magnitude(n));
     }
-    io::print_decimal(STDOUT_FILENO, magnitude(n));
 }
 
 // A refusal's number and place.
@@ -40,4 +37,49 @@ pub fn mark_of(bytes: &[u8]) -> usize {
         i += 1;
     }
     mark
+}
+
+// A buffer to lend, the old byte everywhere. Lending a part of it needs its length only.
+pub fn old_bytes() -> [u8; ROOM]
+    ensures { λ r. ⌜ 65600 ≡ length r ⌝ }
+{
+    [OLD; ROOM]
+}
+
+// Says so if a byte from `at` on is not the old one.
+pub fn print_touched(bytes: &[u8], at: usize) {
+    let mut i = at;
+    while i < bytes.len() {
+        if bytes[i] != OLD {
+            io::write_all(STDOUT_FILENO, b" touched");
+            return;
+        }
+        i += 1;
+    }
+}
+
+// The mark of the first n bytes, and whether more was written.
+pub fn print_marked(bytes: &[u8], n: usize) {
+    if bytes.len() < n {
+        return;
+    }
+    io::write_all(STDOUT_FILENO, b" ");
+    io::print_decimal(STDOUT_FILENO, mark_of(&bytes[..n]) as u64);
+    print_touched(bytes, n);
+}
+
+// The pixels of w by h, as far as a buffer holds them.
+pub fn area(w: u64, h: u64) -> usize {
+    if 65536 < w {
+        return 0;
+    }
+    if 65536 < h {
+        return 0;
+    }
+    (w * h) as usize
+}
+
+// The line of a case that is cut short, or that asks for too much room.
+pub fn print_bad() {
+    io::write_all(STDOUT_FILENO, b"bad case\n");
 }

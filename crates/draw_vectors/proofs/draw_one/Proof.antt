@@ -5,8 +5,8 @@ use borrow.Author.Needs.{needs}
 use Rattle.draw_vectors.proofs.draw_one.Statement.{statement}
 use Rattle.draw_vectors.proofs.draw_one.Tie as tie
 
-old-pixels-requires : tie.Need-old-pixels-requires
-old-pixels-requires c κs = search needs
+old-bytes-requires : tie.Need-old-bytes-requires
+old-bytes-requires c κs = search needs
 
 print-bad-requires : tie.Need-print-bad-requires
 print-bad-requires c κs = search needs
@@ -27,7 +27,7 @@ slice-aggregate-print-line : tie.Need-slice-aggregate-print-line
 slice-aggregate-print-line c =
     let d = c .before .before .draw in
     let o = c .before .before .before .before .before in
-    o .old-pixels .ensures ∙ sym (length-front (o .old-pixels .result) (d .last .1 .1 .0) (o .before .before .args .room) (d .kept .1 .1 .0))
+    o .old-bytes .ensures ∙ sym (length-front (o .old-bytes .result) (d .last .1 .1 .0) (o .before .before .args .room) (d .kept .1 .1 .0))
 
 print-line-requires : tie.Need-print-line-requires
 print-line-requires c κs = search needs
@@ -39,7 +39,7 @@ pub draw-one-spec : {M : Type 1} → statement M
 draw-one-spec =
     tie.close
     (tie.spec
-    old-pixels-requires
+    old-bytes-requires
     print-bad-requires
     returns
     array-borrow-prefix-pixels

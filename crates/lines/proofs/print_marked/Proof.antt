@@ -2,8 +2,8 @@ use mathlib.Core.Path.{sym}
 use native.Mathlib.Omega.{arith}
 use lib.Seq.{length-take-le}
 use borrow.Author.Needs.{needs}
-use Rattle.draw_vectors.proofs.print_pixels.Statement.{statement}
-use Rattle.draw_vectors.proofs.print_pixels.Tie as tie
+use Rattle.lines.proofs.print_marked.Statement.{statement}
+use Rattle.lines.proofs.print_marked.Tie as tie
 
 returns : tie.Need-returns
 returns c = search needs
@@ -29,8 +29,8 @@ print-touched-requires c κs = search needs
 returns-2 : tie.Need-returns-2
 returns-2 c = search needs
 
-pub print-pixels-spec : {M : Type 1} → statement M
-print-pixels-spec =
+pub print-marked-spec : {M : Type 1} → statement M
+print-marked-spec =
     tie.close
     (tie.spec
     returns

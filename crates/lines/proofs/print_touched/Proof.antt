@@ -1,14 +1,14 @@
 use Prim.Native.Nat.{_-_}
 use lib.ListN.{length}
 use borrow.Author.Needs.{needs}
-use Rattle.draw_vectors.proofs.print_touched.Statement.{statement}
-use Rattle.draw_vectors.proofs.print_touched.Tie as tie
+use Rattle.lines.proofs.print_touched.Statement.{statement}
+use Rattle.lines.proofs.print_touched.Tie as tie
 
 abbrev Inv-loop : tie.InvT-loop
-Inv-loop pixels at i₀ t4 i = Unit {0}
+Inv-loop bytes at i₀ t4 i = Unit {0}
 
 abbrev μ-loop : tie.MeasureT-loop
-μ-loop pixels at i₀ t4 i = length pixels - i
+μ-loop bytes at i₀ t4 i = length bytes - i
 
 loop-holds : tie.Need-loop-holds Inv-loop μ-loop
 loop-holds c = tt

@@ -2,8 +2,8 @@ use Prim.Native.Nat.{_≤_}
 use native.Mathlib.Omega.{arith}
 use native.Mathlib.Nat.{mul-le-mul}
 use borrow.Author.Needs.{needs}
-use Rattle.draw_vectors.proofs.area.Statement.{statement}
-use Rattle.draw_vectors.proofs.area.Tie as tie
+use Rattle.lines.proofs.area.Statement.{statement}
+use Rattle.lines.proofs.area.Tie as tie
 
 returns : tie.Need-returns
 returns c = search needs
