@@ -1,8 +1,9 @@
--- What the call's promise means (the letter's second demand): it answers in one of six ways, whose conditions exclude each other; what it writes is the packet that 01's choice
+-- What the call's promise means (the letter's second demand): it answers in one of six ways, and gives each refusal exactly where it must; what it writes is the packet that 01's choice
 -- rules name, which says the measures and draws the bitmap; no refusal writes; and any two answers that the promise allows are equal. Assumes nothing.
 use Prim.Native.Nat.{ℕ, _≤_, _<_}
 use mathlib.Core.Path.{_≡_, refl, sym, ap, _∙_}
-use mathlib.Core.Bool.{true, false}
+use mathlib.Core.Logic.{_↔_}
+use mathlib.Core.Bool.{Bool, true, false}
 use mathlib.Core.List.{List, _++_}
 use native.Mathlib.Omega.{arith}
 use lib.ListN.{length, take, drop}
@@ -10,9 +11,10 @@ use lib.Seq.{take-at}
 use Rattle.format.specs.Limits.{withinLimits, isCode}
 use Rattle.format.specs.Refusals.{badCode, noRoom, bitmapOutsideLimits, badBitmap, noForm, Answer, gives, refused, answers, lent, says, refuses, told}
 use Rattle.format.specs.Measures as F
-use Rattle.format.specs.Pieces.{Form}
+use Rattle.format.specs.Pieces.{Form, Packet, packet, bytesOf}
 use Rattle.format.specs.Choice.{holds, FirstHeld}
 use Rattle.format.specs.Packing.{isBitmap, choiceIn, choiceBytes, pack, packAnswer, packBuffer, PackedOf}
+use Rattle.format.proofs.FormLaws.{first-is}
 use Rattle.format.proofs.PackTheorems as T
 use Rattle.format.proofs.PackTheorems.{packed-is, Ways, one-of-six}
 use Rattle.pack.specs.Answer.{inNumbers}
@@ -93,3 +95,123 @@ module _ (b : List ℕ) (m : F.Measures) (buffer : List ℕ) (r : Packed) (after
       go (T.twenty l p c k q) = twenty l p c k (answer-of (refused noForm 0) q) (buffer-of (refused noForm 0) q)
       go (T.seventeen l p c k g n q) = seventeen l p c k g n (answer-of (refused noRoom 0) q) (buffer-of (refused noRoom 0) q)
       go (T.packs l p c k g n q) = packs l p c k g n (answer-of (gives (choiceBytes b m k)) q) (buffer-of (gives (choiceBytes b m k)) q)
+
+  -- ---- each refusal exactly where it must be
+
+  -- A bitmap and a code within the limits.
+  abbrev pub Judged : Type 0
+  Judged = (withinLimits (m .w) (m .h) ≡ true) × (isBitmap b m ≡ true) × (isCode (m .code) ≡ true)
+
+  other : {A : Type 0} (n k : ℕ) → inNumbers r ≡ refuses n 0 → inNumbers r ≡ refuses k 0 → (n ≡ k → ⊥) → A
+  other n k e f d = absurd (let y = sym e ∙ f in let z : n ≡ k = cc in d z)
+
+  never : {A : Type 0} (n k : ℕ) → inNumbers r ≡ refuses n 0 → inNumbers r ≡ says k → A
+  never n k e f = absurd (let y = sym e ∙ f in let z : _≡_ {A = ℕ} 0 1 = cc in omega arith)
+
+  both : {A : Type 0} {x : Bool} → x ≡ true → x ≡ false → A
+  both e f = absurd (let y = sym e ∙ f in let z : _≡_ {A = ℕ} 0 1 = cc in omega arith)
+
+  -- No form is first where none holds, and the first has one packet.
+  held-none : {A : Type 0} (k : Form) → FirstHeld m (choiceIn b m) k → ((k : Form) → holds m (choiceIn b m k) ≡ false) → A
+  held-none k f x = both (f .held) (x k)
+
+  same-bytes : (j k : Form) → FirstHeld m (choiceIn b m) j → FirstHeld m (choiceIn b m) k → length (choiceBytes b m j) ≡ length (choiceBytes b m k)
+  same-bytes j k f g =
+      let y = sym (first-is m (choiceIn b m) j f) ∙ first-is m (choiceIn b m) k g in
+      let z : choiceIn b m j ≡ choiceIn b m k = cc in
+      ap (λ (x : Packet). length (bytesOf (packet x))) z
+
+  pub eighteen-exactly : (inNumbers r ≡ refuses 18 0) ↔ (withinLimits (m .w) (m .h) ≡ false)
+  eighteen-exactly = ((λ e. there e one-of-these), (λ t. back t one-of-these))
+    where
+      there : inNumbers r ≡ refuses 18 0 → Answered → (withinLimits (m .w) (m .h) ≡ false)
+      there e (eighteen l q u) = l
+      there e (nineteen l p q u) = other 18 19 e q (λ d. omega arith)
+      there e (eight l p c q u) = other 18 8 e q (λ d. omega arith)
+      there e (twenty l p c x q u) = other 18 20 e q (λ d. omega arith)
+      there e (seventeen l p c k f g q u) = other 18 17 e q (λ d. omega arith)
+      there e (packs l p c k f g q u) = never 18 _ e q
+
+      back : (withinLimits (m .w) (m .h) ≡ false) → Answered → inNumbers r ≡ refuses 18 0
+      back t (eighteen l q u) = q
+      back t (nineteen l p q u) = both l (t)
+      back t (eight l p c q u) = both l (t)
+      back t (twenty l p c x q u) = both l (t)
+      back t (seventeen l p c k f g q u) = both l (t)
+      back t (packs l p c k f g q u) = both l (t)
+
+  pub nineteen-exactly : (inNumbers r ≡ refuses 19 0) ↔ ((withinLimits (m .w) (m .h) ≡ true) × (isBitmap b m ≡ false))
+  nineteen-exactly = ((λ e. there e one-of-these), (λ t. back t one-of-these))
+    where
+      there : inNumbers r ≡ refuses 19 0 → Answered → ((withinLimits (m .w) (m .h) ≡ true) × (isBitmap b m ≡ false))
+      there e (eighteen l q u) = other 19 18 e q (λ d. omega arith)
+      there e (nineteen l p q u) = (l, p)
+      there e (eight l p c q u) = other 19 8 e q (λ d. omega arith)
+      there e (twenty l p c x q u) = other 19 20 e q (λ d. omega arith)
+      there e (seventeen l p c k f g q u) = other 19 17 e q (λ d. omega arith)
+      there e (packs l p c k f g q u) = never 19 _ e q
+
+      back : ((withinLimits (m .w) (m .h) ≡ true) × (isBitmap b m ≡ false)) → Answered → inNumbers r ≡ refuses 19 0
+      back t (eighteen l q u) = both (t .0) l
+      back t (nineteen l p q u) = q
+      back t (eight l p c q u) = both p (t .1)
+      back t (twenty l p c x q u) = both p (t .1)
+      back t (seventeen l p c k f g q u) = both p (t .1)
+      back t (packs l p c k f g q u) = both p (t .1)
+
+  pub eight-exactly : (inNumbers r ≡ refuses 8 0) ↔ ((withinLimits (m .w) (m .h) ≡ true) × (isBitmap b m ≡ true) × (isCode (m .code) ≡ false))
+  eight-exactly = ((λ e. there e one-of-these), (λ t. back t one-of-these))
+    where
+      there : inNumbers r ≡ refuses 8 0 → Answered → ((withinLimits (m .w) (m .h) ≡ true) × (isBitmap b m ≡ true) × (isCode (m .code) ≡ false))
+      there e (eighteen l q u) = other 8 18 e q (λ d. omega arith)
+      there e (nineteen l p q u) = other 8 19 e q (λ d. omega arith)
+      there e (eight l p c q u) = (l, p, c)
+      there e (twenty l p c x q u) = other 8 20 e q (λ d. omega arith)
+      there e (seventeen l p c k f g q u) = other 8 17 e q (λ d. omega arith)
+      there e (packs l p c k f g q u) = never 8 _ e q
+
+      back : ((withinLimits (m .w) (m .h) ≡ true) × (isBitmap b m ≡ true) × (isCode (m .code) ≡ false)) → Answered → inNumbers r ≡ refuses 8 0
+      back t (eighteen l q u) = both (t .0) l
+      back t (nineteen l p q u) = both (t .1) p
+      back t (eight l p c q u) = q
+      back t (twenty l p c x q u) = both c (t .2)
+      back t (seventeen l p c k f g q u) = both c (t .2)
+      back t (packs l p c k f g q u) = both c (t .2)
+
+  pub twenty-exactly : (inNumbers r ≡ refuses 20 0) ↔ (Judged × ((k : Form) → holds m (choiceIn b m k) ≡ false))
+  twenty-exactly = ((λ e. there e one-of-these), (λ t. back t one-of-these))
+    where
+      there : inNumbers r ≡ refuses 20 0 → Answered → (Judged × ((k : Form) → holds m (choiceIn b m k) ≡ false))
+      there e (eighteen l q u) = other 20 18 e q (λ d. omega arith)
+      there e (nineteen l p q u) = other 20 19 e q (λ d. omega arith)
+      there e (eight l p c q u) = other 20 8 e q (λ d. omega arith)
+      there e (twenty l p c x q u) = ((l, p, c), x)
+      there e (seventeen l p c k f g q u) = other 20 17 e q (λ d. omega arith)
+      there e (packs l p c k f g q u) = never 20 _ e q
+
+      back : (Judged × ((k : Form) → holds m (choiceIn b m k) ≡ false)) → Answered → inNumbers r ≡ refuses 20 0
+      back t (eighteen l q u) = both (t .0 .0) l
+      back t (nineteen l p q u) = both (t .0 .1) p
+      back t (eight l p c q u) = both (t .0 .2) c
+      back t (twenty l p c x q u) = q
+      back t (seventeen l p c k f g q u) = held-none k f (t .1)
+      back t (packs l p c k f g q u) = held-none k f (t .1)
+
+  pub seventeen-exactly : (inNumbers r ≡ refuses 17 0) ↔ (Judged × ((k : Form) × FirstHeld m (choiceIn b m) k × (length buffer < length (choiceBytes b m k))))
+  seventeen-exactly = ((λ e. there e one-of-these), (λ t. back t one-of-these))
+    where
+      there : inNumbers r ≡ refuses 17 0 → Answered → (Judged × ((k : Form) × FirstHeld m (choiceIn b m) k × (length buffer < length (choiceBytes b m k))))
+      there e (eighteen l q u) = other 17 18 e q (λ d. omega arith)
+      there e (nineteen l p q u) = other 17 19 e q (λ d. omega arith)
+      there e (eight l p c q u) = other 17 8 e q (λ d. omega arith)
+      there e (twenty l p c x q u) = other 17 20 e q (λ d. omega arith)
+      there e (seventeen l p c k f g q u) = ((l, p, c), (k, f, g))
+      there e (packs l p c k f g q u) = never 17 _ e q
+
+      back : (Judged × ((k : Form) × FirstHeld m (choiceIn b m) k × (length buffer < length (choiceBytes b m k)))) → Answered → inNumbers r ≡ refuses 17 0
+      back t (eighteen l q u) = both (t .0 .0) l
+      back t (nineteen l p q u) = both (t .0 .1) p
+      back t (eight l p c q u) = both (t .0 .2) c
+      back t (twenty l p c x q u) = held-none (t .1 .0) (t .1 .1) x
+      back t (seventeen l p c k f g q u) = q
+      back t (packs l p c k f g q u) = absurd (let z = same-bytes k (t .1 .0) f (t .1 .1) in let y = t .1 .2 in omega arith)
