@@ -92,6 +92,7 @@ fn pack_judged(b: &[u8], w: usize, h: usize, m: Measures, buf: &mut [u8]) -> Pac
     let f = chosen.f;
     let n = chosen.bytes;
     let form = pick::pick_form(m, n);
+    // Only where no form holds there is no head.
     let head = head::head_length(form);
     if head == 0 {
         return Packed::Refused(Refusal::NO_FORM, 0);
