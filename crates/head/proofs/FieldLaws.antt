@@ -14,9 +14,6 @@ use Rattle.head.specs.Head.{numbers, total, Fit}
 pow-pos : (k : ℕ) → 0 < 256 ^ k
 pow-pos k = one-le-pow k 256 (omega arith)
 
-pub pow-at : (j k : ℕ) → k ≡ j → 256 ^ j ≡ 256 ^ k
-pow-at j k e = ap (λ (x : ℕ). 256 ^ x) (sym e)
-
 -- ---- one number
 
 -- The j bytes of m from i on are what is left.

@@ -8,9 +8,8 @@ use lib.Dec.{ltb}
 use lib.IntN.{ℤ, pos, negsuc, natAbs}
 use lib.ListN.{length, drop, replicate, length-replicate}
 use lib.Signed.{mag}
-use mir.Syntax.{Width, w8, w16, w32}
-use mir.Val.{SFits, toZ, ofZ}
-use mir.Facts.{toZ-ofZ}
+use mir.Syntax.{w8, w16, w32}
+use mir.Val.{toZ, ofZ}
 use borrow.Author.Tests.{ltb-true}
 use Rattle.format.specs.Refusals.{ok}
 use Rattle.format.specs.Numbers.{bytes, Kind, unsigned, signed, held, twos, Values, allHeld, size, fieldBytes}
@@ -26,6 +25,7 @@ use Rattle.pick.specs.Picks.{Judged, tried, IsPicked}
 use Rattle.pick.specs.declared.Picked.{Picked}
 use Rattle.pick.specs.declared.Picked.the-variants.{Short, Extended, Long}
 use Rattle.pick.proofs.PickLaws.{Small, small, short-is, extended-is, long-is, narrow-offsets, long-offsets}
+use Rattle.sign.proofs.SignLaws.{in-bits}
 use Rattle.head.specs.Head.{headOf, headFor, headLength, numbers, total, Fit, narrowValues, longValues, ScaledBelow, Ready}
 
 -- ---- the head of a packet before n raster bytes
@@ -270,10 +270,6 @@ ready l f m n k a b j r e = record { most = a; few = b; judged = j; held = first
 -- What writing asks of the form picked.
 abbrev Asked : List ℕ → ℕ → F.Measures → ℕ → Picked → Type 0
 Asked l f m n p = (f ≤ 14) × (n ≤ 8192) × Judged m × IsPicked m n p × (headLength p ≤ length l)
-
--- A number that fits is the same in fewer bits.
-in-bits : (w : Width) (x z : ℤ) → SFits w z → x ≡ z → toZ w (ofZ w x) ≡ z
-in-bits w x z f e = ap (λ (y : ℤ). toZ w (ofZ w y)) e ∙ toZ-ofZ {w = w} f
 
 -- A form picked may be written, with its offsets as the machine reads them.
 module _ (l : List ℕ) (f : ℕ) (m : F.Measures) (n : ℕ) (p : Picked) (h : Asked l f m n p) where

@@ -90,9 +90,13 @@ module _ (z : ℤ) (f : SFits w64 z) (e : ltZ (at64 z) (pos 0) ≡ false) where
 
 -- ---- in fewer bits
 
--- Where a number fits fewer bits, it is the same number there.
+-- Where a number fits fewer bits, it is the same number there,
+pub in-bits : (w : Width) (x z : ℤ) → SFits w z → x ≡ z → toZ w (ofZ w x) ≡ z
+in-bits w x z f e = ap (λ (y : ℤ). toZ w (ofZ w y)) e ∙ toZ-ofZ {w = w} f
+
+-- also as the machine reads it back.
 pub fewer : (w : Width) {x : ℤ} (z : ℤ) → SFits w z → mag z < 9223372036854775808 → x ≡ at64 z → toZ w (ofZ w x) ≡ z
-fewer w z f l e = ap (λ (y : ℤ). toZ w (ofZ w y)) (e ∙ reads-back z l) ∙ toZ-ofZ {w = w} f
+fewer w {x} z f l e = in-bits w x z f (e ∙ reads-back z l)
 
 -- ---- in 64 bits again
 
