@@ -46,3 +46,4 @@ pub mod FormEdges
 pub mod SomeLaws
 pub mod ByteLaws
 pub mod PackTheorems
+pub mod ListTheorems

@@ -1,6 +1,7 @@
 -- Questions to the definitions, and their replies in 01's numbers: what the lists of examples are made of. Assumes nothing.
 use Prim.Native.Nat.{ℕ, _+_, _-_, _%_}
 use mathlib.Core.Path.{_≡_}
+use mathlib.Core.Bool.{cond}
 use mathlib.Core.List.{List, [], _∷_, _++_, map}
 use lib.IntN.{ℤ, pos, negsuc}
 use lib.ListN.{length, replicate}
@@ -10,7 +11,7 @@ use Rattle.format.specs.Refusals.{Told, says, refuses, told, lent, answe
 use Rattle.format.specs.Numbers.{bytes, held, twos, allHeld, fieldBytes}
 use Rattle.format.specs.Decoding.{number, valueOf, readFields, Got, value, ends, mark, digits, zeros, shift, second, decode}
 use Rattle.format.specs.Measures.{Scaled, scaled, Measures, toScaled, wholePixels, sameScaled}
-use Rattle.format.specs.Pieces.{flag, fits, measures, bytesOf}
+use Rattle.format.specs.Pieces.{preambleBytes, flag, fits, measures, bytesOf}
 use Rattle.format.specs.Packed.{nybbles, hex, zerosF, zerosOf, large, encode}
 use Rattle.format.specs.Rasters.{written, writings, string, repeats, rows, sum, sent, joined, picture, bitsOf, bits}
 use Rattle.format.specs.Cut.{packets, codes}
@@ -18,8 +19,9 @@ use Rattle.format.specs.Reading.{numberOf, runAt, repeatAt, itemOf, afte
 use Rattle.format.specs.Verdict.{atLeast, formOf, rasterAt, packetAt, specialAt, numericAt, step, checked, orElse, prepend, isNil, ending, next, onwardF, onward, preambleAt, begin, verdict, check}
 use Rattle.format.specs.Drawing.{drawnBy, rasterPixels, pixelsOf, find, drawn, drawFrom, draw, drawAnswer, drawBuffer}
 use Rattle.format.specs.Counts.{mixed, above, kept, placed, lastOf, strung, grow, runs, before, listed, counts}
-use Rattle.format.specs.Choice.{nybbleCount, leastOf, fewest, chosen, halves, byteOf, bitBytes, rasterOf, firstBlack, inForm, holds, firstForm}
+use Rattle.format.specs.Choice.{nybbleCount, leastOf, fewest, chosen, halves, byteOf, bitBytes, rasterOf, firstBlack, inForm, holds, firstForm, order}
 use Rattle.format.specs.Packing.{allPixels, choiceIn, packetFor, packed, pack, packAnswer, packBuffer}
+use Rattle.format.specs.Listing.{Heading, headingOf, Entry, entries, entriesOf}
 
 pub data Question : Type 0 where
   -- the packed number that nybbles are, for f
@@ -36,6 +38,8 @@ pub data Question : Type 0 where
   draws : List ℕ → ℕ → ℕ → Question
   -- the packet of a bitmap with its measures, with a buffer of so many bytes
   packs : Measures → List ℕ → ℕ → Question
+  -- a font's listing
+  lists : List ℕ → Question
   -- what the two calls answer, and leave in a lent buffer
   drawAnswers : List ℕ → ℕ → List ℕ → Question
   drawLeaves : List ℕ → ℕ → List ℕ → Question
@@ -47,6 +51,8 @@ pub data Reply : Type 0 where
   list : List ℕ → Reply
   -- code, w, h, tfm, dx, dy, hoff, voff; the pixels
   character : List ℤ → List ℕ → Reply
+  -- a number for each line of a listing: 0, 1, 2 for short, extended, long
+  lines : List ℤ → Reply
   -- a refusal's number and place
   refusal : ℕ → ℕ → Reply
   nothing : Reply
@@ -73,9 +79,21 @@ unfoldable pub packReply : Told (List ℕ) → Reply
 packReply (says bytes) = list bytes
 packReply (refuses n place) = refusal n place
 
+-- The twelve lines of each entry.
+unfoldable pub entryLines : List Entry → List ℤ
+entryLines [] = []
+entryLines (e ∷ es) =
+    pos (e .at) ∷ e .measures .code ∷ pos (order (e .form)) ∷ pos (e .f) ∷ cond (e .black) (pos 1) (pos 0) ∷ e .measures .tfm ∷ count (e .measures .dx) ∷ count (e .measures .dy)
+    ∷ e .measures .w ∷ e .measures .h ∷ e .measures .hoff ∷ e .measures .voff ∷ entryLines es
+
+-- A number for each line.
+unfoldable pub listReply : Told (Heading × List Entry) → Reply
+listReply (says (h, es)) = lines (pos (h .bytes) ∷ h .ds ∷ h .cs ∷ h .hppp ∷ h .vppp ∷ pos (h .chars) ∷ entryLines es)
+listReply (refuses n place) = refusal n place
+
 -- The definitions' reply. All that they say computes where `reply` is unfolded.
 unfoldable pub reply : Question → Reply
-unfolding readReply checkReply count drawReply packReply inLimits withinLimits isCode all elem same told answers _>>=_ need answerAt bytes number held twos valueOf allHeld fieldBytes readFields toScaled wholePixels sameScaled flag fits measures bytesOf nybbles hex zerosF zerosOf large encode digits zeros shift second decode written writings string repeats rows sum sent joined picture bitsOf bits packets codes numberOf runAt repeatAt itemOf afterRun afterRepeat afterItem finish turn walk reading bitsRead noneRead items atLeast formOf rasterAt packetAt specialAt numericAt step checked orElse prepend isNil ending next onwardF onward preambleAt begin verdict check drawnBy rasterPixels pixelsOf find drawn drawFrom draw mixed above kept placed lastOf strung grow runs before listed counts nybbleCount leastOf fewest chosen halves byteOf bitBytes rasterOf firstBlack inForm holds firstForm allPixels choiceIn packetFor packed pack lent drawAnswer drawBuffer packAnswer packBuffer
+unfolding readReply checkReply count drawReply packReply entryLines listReply preambleBytes entries inLimits withinLimits isCode all elem same told answers _>>=_ need answerAt bytes number held twos valueOf allHeld fieldBytes readFields toScaled wholePixels sameScaled flag fits measures bytesOf nybbles hex zerosF zerosOf large encode digits zeros shift second decode written writings string repeats rows sum sent joined picture bitsOf bits packets codes numberOf runAt repeatAt itemOf afterRun afterRepeat afterItem finish turn walk reading bitsRead noneRead items atLeast formOf rasterAt packetAt specialAt numericAt step checked orElse prepend isNil ending next onwardF onward preambleAt begin verdict check drawnBy rasterPixels pixelsOf find drawn drawFrom draw mixed above kept placed lastOf strung grow runs before listed counts nybbleCount leastOf fewest chosen halves byteOf bitBytes rasterOf firstBlack inForm holds firstForm allPixels choiceIn packetFor packed pack lent drawAnswer drawBuffer packAnswer packBuffer
 reply (reads f xs) = readReply (decode f xs)
 reply (writes f n) = list (encode f n)
 reply (size f w h b) = it (nybbleCount (counts (rows w h b)) f)
@@ -83,6 +101,7 @@ reply (chooses w h b) = it (chosen w h (counts (rows w h b)))
 reply (checks s) = checkReply (told (check s))
 reply (draws s code room) = drawReply (told (draw s code room))
 reply (packs m b room) = packReply (told (pack b m room))
+reply (lists s) = listReply (told (answers (λ x. (headingOf s x, entriesOf x)) (verdict s)))
 reply (drawAnswers s code buffer) = drawReply (told (answers (λ m. (m, [])) (drawAnswer s code buffer)))
 reply (drawLeaves s code buffer) = list (drawBuffer s code buffer)
 reply (packAnswers m b buffer) = checkReply (told (packAnswer b m buffer))

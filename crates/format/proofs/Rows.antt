@@ -7,7 +7,7 @@ use mathlib.Core.List.{List, [], _∷_, _++_}
 use lib.IntN.{ℤ, pos, negsuc}
 use lib.ListN.{take, drop, replicate}
 use Rattle.format.specs.Measures.{scaled, Measures}
-use Rattle.format.proofs.Questions.{Question, checks, draws, packs, drawAnswers, drawLeaves, packAnswers, packLeaves, Reply, it, list, character, refusal, reply, Given, preamble, font, plain, short, letter, letterMeasures, letterPacket}
+use Rattle.format.proofs.Questions.{Question, checks, draws, packs, lists, drawAnswers, drawLeaves, packAnswers, packLeaves, Reply, it, list, character, lines, refusal, reply, Given, preamble, font, plain, short, letter, letterMeasures, letterPacket}
 
 -- A long packet with f = 14: its length, code, w and h in four bytes each, all else zero.
 abbrev long : List ℕ → List ℕ → List ℕ → List ℕ → List ℕ → List ℕ
@@ -45,6 +45,22 @@ blackWhite = replicate 10 1 ++ replicate 10 0
 -- The letter before the dot, with commands among them.
 abbrev falling : List ℕ
 falling = 240 ∷ 1 ∷ 7 ∷ (letterPacket ++ (244 ∷ (four 1 2 3 4 ++ dotPacket)))
+
+-- The lines of the two.
+abbrev fallingLines : List ℤ
+fallingLines =
+    pos 22 ∷ pos 4 ∷ pos 0 ∷ pos 8 ∷ pos 1 ∷ pos 640796 ∷ pos 1638400 ∷ pos 0 ∷ pos 20 ∷ pos 29 ∷ negsuc 1 ∷ pos 28
+    ∷ pos 56 ∷ pos 3 ∷ pos 0 ∷ pos 13 ∷ pos 1 ∷ pos 0 ∷ pos 0 ∷ pos 0 ∷ pos 1 ∷ pos 1 ∷ pos 0 ∷ pos 0 ∷ []
+
+-- A black pixel of code 200 in the long form, by bits: tfm −1, dx 65,537, dy −65,536, offsets −3 and 4; and its listing.
+abbrev longDot : List ℕ
+longDot =
+    0xE7 ∷ (four 0 0 0 29 ++ (four 0 0 0 200 ++ (four 255 255 255 255 ++ (four 0 1 0 1 ++ (four 255 255 0 0 ++ (four 0 0 0 1 ++ (four 0 0 0 1 ++ (four 255 255 255 253 ++ (four 0 0 0 4 ++ 0x80 ∷ [])))))))))
+
+abbrev longDotLines : List ℤ
+longDotLines =
+    pos 60 ∷ pos 1 ∷ negsuc 1 ∷ pos 3 ∷ negsuc 2147483647 ∷ pos 1
+    ∷ pos 21 ∷ pos 200 ∷ pos 2 ∷ pos 14 ∷ pos 0 ∷ negsuc 0 ∷ pos 65537 ∷ negsuc 65535 ∷ pos 1 ∷ pos 1 ∷ negsuc 2 ∷ pos 4 ∷ []
 
 abbrev pub rows : List (Question × Reply)
 rows =
@@ -93,6 +109,11 @@ rows =
     ∷ (draws (font letterPacket) 5 0, refusal 16 0) ∷ (draws (font letterPacket) 260 65536, refusal 16 0)
     ∷ (draws (font (short 0xD8 2 2 (0x41 ∷ []))) 5 0, refusal 13 19)
     ∷ (draws (font letterPacket) 4 579, refusal 17 0)
+    -- a listing: each packet at its own place, in file order; a refused font lists nothing
+    ∷ (lists (font falling), lines (pos 72 ∷ pos 10485760 ∷ pos 1234 ∷ pos 272046 ∷ pos 272046 ∷ pos 2 ∷ fallingLines))
+    -- behind a comment of two bytes, with four numbers that differ; a long packet with the black bit 0
+    ∷ (lists (0xF7 ∷ 0x59 ∷ 2 ∷ 104 ∷ 105 ∷ (four 0 0 0 1 ++ (four 255 255 255 254 ++ (four 0 0 0 3 ++ (four 128 0 0 0 ++ (longDot ++ 0xF5 ∷ [])))))), lines longDotLines)
+    ∷ (lists (font (letterPacket ++ short 0xD8 1 1 (0x20 ∷ []))), refusal 9 48)
     -- packing: 18 before 19 before 8 before 20 before 17
     ∷ (packs (plain (pos 0) (pos 1)) [] 0, refusal 18 0) ∷ (packs (plain (pos 65536) (pos 65536)) (1 ∷ []) 0, refusal 18 0)
     ∷ (packs (plain (negsuc 0) (negsuc 0)) (1 ∷ []) 0, refusal 18 0)

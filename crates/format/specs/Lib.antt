@@ -16,3 +16,4 @@ pub mod Drawing
 pub mod Counts
 pub mod Choice
 pub mod Packing
+pub mod Listing

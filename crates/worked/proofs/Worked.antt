@@ -1,11 +1,11 @@
 -- 01, Worked by hand: one list of questions with 01's replies, and one statement that the definitions give each. All marked P in 01
--- are here, and the others but for the listing, which a program is to run. Assumes nothing.
+-- are here, and the others, the listing among them. Assumes nothing.
 use Prim.Native.Nat.{ℕ}
 use mathlib.Core.Path.{refl}
 use mathlib.Core.List.{List, [], _∷_}
 use lib.IntN.{pos, negsuc}
 use lib.ListN.{replicate}
-use Rattle.format.proofs.Questions.{Question, reads, writes, size, chooses, checks, draws, packs, Reply, it, list, character, refusal, reply, Given, font, plain, short, letter, letterMeasures, letterPacket}
+use Rattle.format.proofs.Questions.{Question, reads, writes, size, chooses, checks, draws, packs, lists, Reply, it, list, character, lines, refusal, reply, Given, font, plain, short, letter, letterMeasures, letterPacket}
 
 -- code 4, w = h = 2, all else zero
 abbrev two : List ℕ → Reply
@@ -51,8 +51,8 @@ worked =
     ∷ (draws (font (short 0xD8 2 2 (0x00 ∷ []))) 4 65536, refusal 10 19)
     -- extended dm 65,535 is dx 4,294,901,760; hoff FF FE is −2
     ∷ (draws (font (0xE4 ∷ 0 ∷ 14 ∷ 4 ∷ 0 ∷ 0 ∷ 0 ∷ 0xFF ∷ 0xFF ∷ 0 ∷ 1 ∷ 0 ∷ 1 ∷ 0xFF ∷ 0xFE ∷ 0 ∷ 0 ∷ 0x80 ∷ [])) 4 65536, character (pos 4 ∷ pos 1 ∷ pos 1 ∷ pos 0 ∷ pos 4294901760 ∷ pos 0 ∷ negsuc 1 ∷ pos 0 ∷ []) (1 ∷ []))
-    -- the font of the listing has one character
-    ∷ (checks (font letterPacket), it 1)
+    -- the listing of 18 lines
+    ∷ (lists (font letterPacket), lines (pos 52 ∷ pos 10485760 ∷ pos 1234 ∷ pos 272046 ∷ pos 272046 ∷ pos 1 ∷ pos 19 ∷ pos 4 ∷ pos 0 ∷ pos 8 ∷ pos 1 ∷ pos 640796 ∷ pos 1638400 ∷ pos 0 ∷ pos 20 ∷ pos 29 ∷ negsuc 1 ∷ pos 28 ∷ []))
     ∷ []
 
 -- The definitions give each.
