@@ -6,7 +6,6 @@ use mathlib.Core.Path.{_≡_, refl, sym, ap, _∙_, subst}
 use mathlib.Core.Logic.{⊎-elim}
 use mathlib.Core.List.{List, _++_}
 use native.Mathlib.Omega.{arith}
-use lib.IntN.{ℤ}
 use lib.ListN.{length, drop}
 use Rattle.format.specs.Limits.{most}
 use Rattle.format.specs.Refusals.{Refusal, noSuchCode, noRoom, Answer, gives, refused, answers, lent, says, refuses, told}
@@ -25,31 +24,14 @@ use Rattle.format.proofs.CommandLaws.{Command, withCommand, command-drawings}
 use Rattle.format.proofs.OrderLaws.{Reordered, withPieces, reordered-drawings}
 use Rattle.format.proofs.FaultConverse.{means-refusal, row-or-cut}
 use Rattle.measures.specs.Said as M
-use Rattle.measures.specs.declared.Measures.{Measures}
+use Rattle.measures.proofs.SaidLaws.{one-measures}
 use Rattle.glyph.specs.Answer.{inNumbers}
 use Rattle.glyph.specs.declared.Drawn.{Drawn}
 use Rattle.glyph.specs.declared.Drawn.the-variants.{Measured, Refused}
 
 -- ---- one answer
 
-scaled-one : (a b : ℤ) → F.scaled a ≡ F.scaled b → a ≡ b
-scaled-one a b e = cc
-
--- Measures are told by what they say, and an answer by its numbers.
-one-measures : (m n : Measures) → M.said m ≡ M.said n → m ≡ n
-one-measures m n e =
-    rw (
-      ap (λ (x : F.Measures). x .code) e,
-      ap (λ (x : F.Measures). x .w) e,
-      ap (λ (x : F.Measures). x .h) e,
-      ap (λ (x : F.Measures). x .tfm) e,
-      scaled-one (m .dx .0) (n .dx .0) (ap (λ (x : F.Measures). x .dx) e),
-      scaled-one (m .dy .0) (n .dy .0) (ap (λ (x : F.Measures). x .dy) e),
-      ap (λ (x : F.Measures). x .hoff) e,
-      ap (λ (x : F.Measures). x .voff) e,
-    )
-    refl
-
+-- An answer is told by its numbers.
 pub one-number : (r t : Drawn) → inNumbers r ≡ inNumbers t → r ≡ t
 unfolding inNumbers
 one-number (Measured m) (Measured n) e = let z : M.said m ≡ M.said n = cc in ap Measured (one-measures m n z)

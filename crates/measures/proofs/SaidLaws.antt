@@ -1,6 +1,6 @@
 -- The measures of a packet from the numbers at the places of its fields. Assumes nothing.
 use Prim.Native.Nat.{ℕ, zero, suc, _+_, _*_, _≤_}
-use mathlib.Core.Path.{_≡_, ap, _∙_}
+use mathlib.Core.Path.{_≡_, refl, ap, _∙_}
 use mathlib.Core.List.{List}
 use native.Mathlib.Omega.{arith}
 use lib.IntN.{ℤ, pos}
@@ -10,6 +10,7 @@ use mir.Syntax.{w32, w64}
 use mir.Val.{Fits, SFits, toZ, ofZ}
 use mir.Facts.{toZ-pos, toZ-ofZ}
 use Rattle.format.specs.Numbers.{signed}
+use Rattle.format.specs.Measures as F
 use Rattle.format.specs.Measures.{pixels, toScaled}
 use Rattle.format.specs.Pieces.{long}
 use Rattle.format.specs.Decoding.{number, valueOf, readFields}
@@ -20,6 +21,7 @@ use Rattle.escapement.specs.declared.Scaled.{Scaled}
 use Rattle.packet.specs.Outlines.{narrowForm}
 use Rattle.packet.specs.declared.Outline.{Outline}
 use Rattle.measures.specs.Said.{said, saidBy, Small}
+use Rattle.measures.specs.declared.Measures.{Measures}
 
 -- A number of at most two bytes fits 32 bits.
 pub dm-fits : (s : List ℕ) (at m n : ℕ) → m ≤ 2 → NumberAt s at m n → Fits w32 n
@@ -93,3 +95,23 @@ long-said s at x tfm dx dy hoff voff o et ex ey eh ev =
     let p28 : at + 28 ≡ at + 4 + 4 + 4 + 4 + 4 + 4 + 4 = omega arith in
     let p32 : at + 32 ≡ at + 4 + 4 + 4 + 4 + 4 + 4 + 4 + 4 = omega arith in
     simp (drop-drop, z .0, z .1, z .2, back _ _ _ _ et, back _ _ _ _ ex, back _ _ _ _ ey, back _ _ _ _ eh, back _ _ _ _ ev, p8, p12, p16, p28, p32)
+
+-- ---- one of them
+
+scaled-one : (a b : ℤ) → F.scaled a ≡ F.scaled b → a ≡ b
+scaled-one a b e = cc
+
+-- Measures are told by what they say.
+pub one-measures : (m n : Measures) → said m ≡ said n → m ≡ n
+one-measures m n e =
+    rw (
+      ap (λ (x : F.Measures). x .code) e,
+      ap (λ (x : F.Measures). x .w) e,
+      ap (λ (x : F.Measures). x .h) e,
+      ap (λ (x : F.Measures). x .tfm) e,
+      scaled-one (m .dx .0) (n .dx .0) (ap (λ (x : F.Measures). x .dx) e),
+      scaled-one (m .dy .0) (n .dy .0) (ap (λ (x : F.Measures). x .dy) e),
+      ap (λ (x : F.Measures). x .hoff) e,
+      ap (λ (x : F.Measures). x .voff) e,
+    )
+    refl

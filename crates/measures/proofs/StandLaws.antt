@@ -59,8 +59,11 @@ module _ (s : List ℕ) (b : Bytes s) (at : ℕ) (x : Outline) (t : StandsAt s a
       record { code = f .code; wide = m .0; high = m .1 }
 
   -- Its flag tells its form.
+  pub flag-told : formOf (getD s at 0) ≡ t .packet .form
+  flag-told = ap formOf (fronted .1) ∙ flag-form (t .packet) (stands-is s b at x t .ok)
+
   form-told : (k : Form) → Bits k (getD s at 0 % 8) → t .packet .form ≡ k
-  form-told k h = sym (flag-form (t .packet) (stands-is s b at x t .ok)) ∙ ap formOf (sym (fronted .1)) ∙ form-is k (getD s at 0) h
+  form-told k h = sym flag-told ∙ form-is k (getD s at 0) h
 
   -- Its fields are whole.
   pub room : (k : Form) → Bits k (getD s at 0 % 8) → at + 1 + size (kinds k) ≤ length s
