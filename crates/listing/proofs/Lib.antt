@@ -1,0 +1,3 @@
+pub mod HeadingLaws
+pub mod NextLaws
+pub mod Promises
