@@ -35,8 +35,8 @@ fn as_repeat(read: Read) -> Item
     }
 }
 
-// The item whose first nybble is at `at`, of any number of nybbles.
-fn other_at(s: &[u8], at: usize, f: usize, repeat: usize) -> Item
+// The item whose first nybble is at `at`, in a row that has had the repeat given.
+pub fn other_at(s: &[u8], at: usize, f: usize, repeat: usize) -> Item
     requires { ⌜ f ≤ 13 ⌝ }
     ensures { λ r. ⌜ r ≡ toItem (now (s .entry)) (itemOf f repeat (from (now (s .entry)) at)) ⌝ }
 {
@@ -56,7 +56,7 @@ fn other_at(s: &[u8], at: usize, f: usize, repeat: usize) -> Item
     as_repeat(packed::read_number(s, at + 1, f))
 }
 
-// The item whose first nybble is at `at`, in a row that has had the repeat given: runs of one or two nybbles, which most are, first.
+// The same, looking first for a run of one or two nybbles, which most are.
 pub fn item_at(s: &[u8], at: usize, f: usize, repeat: usize) -> Item
     requires { ⌜ f ≤ 13 ⌝ }
     ensures { λ r. ⌜ r ≡ toItem (now (s .entry)) (itemOf f repeat (from (now (s .entry)) at)) ⌝ }

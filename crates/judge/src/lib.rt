@@ -24,7 +24,7 @@ pub enum Judged {
 }
 
 // One item taken: the state after it and the place of the next nybble, or its fault.
-pub enum Turn {
+enum Turn {
     On(State, usize),
     Fault(Refusal),
 }
@@ -39,13 +39,17 @@ fn on(moved: Moved, next: usize) -> Turn
     }
 }
 
-// The item at `at`, read and judged.
-pub fn turn_at(s: &[u8], at: usize, f: usize, w: usize, h: usize, state: State) -> Turn
+// The item at `at`, read and judged: runs of one or two nybbles, which most are, first.
+fn turn_at(s: &[u8], at: usize, f: usize, w: usize, h: usize, state: State) -> Turn
     requires { ⌜ (f ≤ 13) × Within w h (plain state) ⌝ }
     ensures { λ r. ⌜ r ≡ toTurn (now (s .entry)) (state .black) (turn f w h (plain state) (from (now (s .entry)) at)) ⌝ }
 {
+    let short = packed::short_at(s, at, f);
+    if short.n != 0 {
+        return on(state.run(w, h, short.n), short.next);
+    }
     let repeat = state.repeat;
-    let item = items::item_at(s, at, f, repeat);
+    let item = items::other_at(s, at, f, repeat);
     match item {
         Item::Run(n, next) => on(state.run(w, h, n), next),
         Item::Repeat(n, next) => on(state.repeat(h, n), next),

@@ -76,12 +76,16 @@ impl State {
         }
     }
 
-    // A run of n pixels, no longer than the pixels left.
+    // A run of n pixels, no longer than the pixels left. Most end in their row, and need no product.
     pub fn run(self, w: usize, h: usize, n: usize) -> Moved
         requires { ⌜ Within w h (plain self) ⌝ }
         ensures { λ r. ⌜ r ≡ movedTo (not (self .black)) (afterRun w h n (plain self)) ⌝ }
     {
-        let left = (w - self.column) + (h - self.row - self.repeat - 1) * w;
+        let room = w - self.column;
+        if n < room {
+            return Moved::To(self.past(w, n));
+        }
+        let left = room + (h - self.row - self.repeat - 1) * w;
         if left < n {
             return Moved::Fault(Refusal::TOO_MANY);
         }
