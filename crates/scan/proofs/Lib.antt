@@ -1,0 +1,4 @@
+pub mod FirstLaws
+pub mod ByteLaws
+pub mod AlikeLaws
+pub mod WordLaws
