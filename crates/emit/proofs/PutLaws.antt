@@ -12,7 +12,7 @@ use lib.Dec.{eqb}
 use borrow.Author.Tests.{eq-eqb, ne-eqb, le-leb, lt-leb}
 use Rattle.format.specs.Packed.{limit, large, encode}
 use Rattle.format.specs.Choice.{halves}
-use Rattle.format.proofs.PackedLaws.{large-one, large-more}
+use Rattle.format.proofs.PackedLaws.{large-one, large-more, length-two}
 use Rattle.emit.specs.Nybbles.{putOne, putAll}
 
 -- One nybble: the high half of a byte, or the low half.
@@ -79,14 +79,24 @@ pub number-one : (d e : List ℕ) (i f n : ℕ) → n ≤ f → e ≡ putOne d i
 unfolding encode
 number-one d e i f n h p = rw (le-leb n f h) (refl, p ∙ put-one d i n)
 
+-- Up to the limit, and only so far, the first of two nybbles is at most 13.
+pub first-within : (f n : ℕ) → f ≤ 13 → f < n → (n - f - 1) / 16 + f < 13 → n ≤ limit f
+first-within f n h g l = omega arith
+
+first-above : (f n : ℕ) → f ≤ 13 → f < n → 13 ≤ (n - f - 1) / 16 + f → limit f < n
+first-above f n h g l = omega arith
+
+pub two-long : (f n : ℕ) → f ≤ 13 → f < n → (n - f - 1) / 16 + f < 13 → length (encode f n) ≡ 2
+two-long f n h g l = length-two f n g (first-within f n h g l)
+
 pub number-two : (d d₁ d₂ : List ℕ) (i f n : ℕ) → f < n → n ≤ limit f → d₁ ≡ putOne d i ((n - f - 1) / 16 + f + 1) → d₂ ≡ putOne d₁ (i + 1) ((n - f - 1) % 16)
     → (i + 2 ≡ i + length (encode f n)) × (d₂ ≡ putAll d i (encode f n))
 unfolding encode putAll
 number-two d d₁ d₂ i f n h g e₁ e₂ = rw (lt-leb n f h, le-leb n (limit f) g) (refl, e₂ ∙ rw e₁ refl)
 
-pub number-large : (f n m : ℕ) → f < n → m ≡ limit f → m < n → encode f n ≡ large (n - m + 15)
+pub number-large : (f n m : ℕ) → f ≤ 13 → f < n → 13 ≤ (n - f - 1) / 16 + f → m ≡ limit f → encode f n ≡ large (n - m + 15)
 unfolding encode
-number-large f n m h e g = rw (e, lt-leb n f h, lt-leb n (limit f) (omega arith)) refl
+number-large f n m h g l e = rw (e, lt-leb n f g, lt-leb n (limit f) (first-above f n h g l)) refl
 
 -- ---- the bytes
 

@@ -34,7 +34,7 @@ fn write_large(buf: &mut [u8], i: usize, k: usize) -> usize
     at + 1
 }
 
-// The number n for f, from i on; it answers the place behind.
+// The number n for f, from i on; it answers the place behind. Up to the limit, and only so far, the first of two nybbles is at most 13.
 pub fn write_number(buf: &mut [u8], i: usize, f: usize, n: usize) -> usize
     requires { ⌜ (f ≤ 13) × (1 ≤ n) × (n ≤ 65536) × (i + length (encode f n) ≤ 2 * length (now buf)) ⌝ }
     ensures { λ r. ⌜ (r ≡ i + length (encode f n)) × (now (buf .exit) ≡ putAll (now (buf .entry)) i (encode f n)) ⌝ }
@@ -43,12 +43,12 @@ pub fn write_number(buf: &mut [u8], i: usize, f: usize, n: usize) -> usize
         put_nybble(buf, i, n);
         return i + 1;
     }
-    let m = packed::limit_of(f);
-    if n <= m {
-        let k = n - f - 1;
+    let k = n - f - 1;
+    if k / 16 + f < 13 {
         put_nybble(buf, i, k / 16 + f + 1);
         put_nybble(buf, i + 1, k % 16);
         return i + 2;
     }
+    let m = packed::limit_of(f);
     write_large(buf, i, n - m + 15)
 }

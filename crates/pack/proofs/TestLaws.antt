@@ -1,7 +1,7 @@
 -- Laws of the tests that packing makes first, and of the raster's kind. Assumes nothing.
-use Prim.Native.Nat.{ℕ, zero, suc, _+_, _≤_, _<_}
+use Prim.Native.Nat.{ℕ, zero, suc, _+_, _≤_, _<_, max}
 use mathlib.Core.Path.{_≡_, refl, sym, ap, _∙_}
-use mathlib.Core.Bool.{Bool, true, false, _&&_}
+use mathlib.Core.Bool.{Bool, false, _&&_, and-true}
 use mathlib.Core.List.{List, [], _∷_}
 use native.Mathlib.Omega.{arith}
 use native.Mathlib.Numerals.{add-one}
@@ -17,6 +17,7 @@ use Rattle.format.specs.Counts.{counts}
 use Rattle.format.specs.Choice.{halves, bitBytes, rasterOf, firstBlack}
 use Rattle.format.specs.Packing.{allPixels}
 use Rattle.format.proofs.HalfLaws.{length-bit-bytes}
+use Rattle.format.proofs.Tests.{split}
 use Rattle.pack.specs.Bitmaps.{rasterFor}
 
 -- ---- w, h and the code
@@ -50,24 +51,34 @@ code-is (negsuc n) a e p = absurd (let z : _≡_ {A = ℕ} 0 1 = cc in omega ari
 
 -- ---- pixels
 
--- What is said of the bytes from i on is said of all.
-abbrev pub SoFar : List ℕ → ℕ → Type 0
-SoFar b i = (i ≤ length b) × (allPixels b ≡ allPixels (drop i b))
+-- The largest byte before i, with the bytes from i on, says what all say.
+pub record SoFar (b : List ℕ) (top i : ℕ) : Type 0 where
+  pub inside : i ≤ length b
+  pub same : allPixels b ≡ ltb top 2 && allPixels (drop i b)
 
-module _ (b : List ℕ) (i : ℕ) (t : SoFar b i) where
-  from-i : i < length b → allPixels b ≡ ltb (getD b i 0) 2 && allPixels (drop (i + 1) b)
-  unfolding allPixels
-  from-i l = t .1 ∙ rw (drop-cons b i 0 l, add-one i) refl
+-- The larger of two is a pixel if both are.
+larger-pixel : (x y : ℕ) (t : Bool) → ltb x 2 && (ltb y 2 && t) ≡ ltb (max x y) 2 && t
+larger-pixel x y t =
+    split 2 x
+    (λ h. rw (le-ltb x 2 h, le-ltb (max x y) 2 (omega arith)) refl)
+    (λ h. rw (lt-ltb x 2 h) (split 2 y
+    (λ l. rw (le-ltb y 2 l, le-ltb (max x y) 2 (omega arith)) refl)
+    (λ l. rw (lt-ltb y 2 l, lt-ltb (max x y) 2 (omega arith)) refl)))
 
-  pub pixel-bad : i < length b → 1 < getD b i 0 → false ≡ allPixels b
-  pixel-bad l p = sym (from-i l ∙ rw (le-ltb (getD b i 0) 2 p) refl)
+-- Before the first byte, behind one more, and behind the last.
+pub pixel-start : (b : List ℕ) → SoFar b 0 0
+pixel-start b = record { inside = omega arith; same = refl }
 
-  pub pixel-good : i < length b → getD b i 0 ≤ 1 → SoFar b (i + 1)
-  pixel-good l p = (omega arith, from-i l ∙ rw (lt-ltb (getD b i 0) 2 (omega arith)) refl)
+pub pixel-more : {b : List ℕ} {top i : ℕ} (r : ℕ) → SoFar b top i → i < length b → r ≡ max top (getD b i 0) → SoFar b r (i + 1)
+unfolding allPixels
+pixel-more {b} {top} {i} r t l e = record {
+  inside = omega arith;
+  same = t .same ∙ rw (drop-cons b i 0 l, add-one i, e) (larger-pixel top (getD b i 0) (allPixels (drop (suc i) b)));
+}
 
-  pub pixels-all : length b ≤ i → true ≡ allPixels b
-  unfolding allPixels
-  pixels-all l = sym (t .1 ∙ rw (drop-of-length-le b l) refl)
+pub pixels-all : {b : List ℕ} {top i : ℕ} → SoFar b top i → length b ≤ i → ltb top 2 ≡ allPixels b
+unfolding allPixels
+pixels-all {b} {top} {i} t l = sym (t .same ∙ rw (drop-of-length-le b l) (and-true (ltb top 2)))
 
 -- ---- the black bit
 

@@ -9,9 +9,11 @@ ghost use Rattle.format.specs.Refusals.{told};
 ghost use Rattle.format.specs.Choice.{firstBlack};
 ghost use Rattle.format.specs.Packing.{allPixels, packAnswer, packBuffer};
 ghost use Rattle.measures.specs.Said.{said};
+ghost use Rattle.part.specs.Parts.{First};
 ghost use Rattle.pack.specs.Answer.{inNumbers};
 ghost use Rattle.pack.specs.Bitmaps.{Bitmap, rasterFor};
 use measures::Measures;
+use part::Part;
 use refusals::Refusal;
 
 // The packet's length, or a refusal with its place.
@@ -33,18 +35,24 @@ fn within_limits(w: i64, h: i64) -> bool
     packet::in_limits(sign::magnitude(w), sign::magnitude(h))
 }
 
-// Each byte is 0 or 1.
+// The larger of the two.
+fn larger(x: u8, y: u8) -> u8
+    ensures { λ r. ⌜ r ≡ Prim.Native.Nat.max x y ⌝ }
+{
+    if x < y { y } else { x }
+}
+
+// Each byte is 0 or 1: the largest is. It does not leave early, so that many bytes are taken side by side.
 fn all_pixels(b: &[u8]) -> bool
     ensures { λ r. ⌜ r ≡ allPixels (now (b .entry)) ⌝ }
 {
+    let mut top: u8 = 0;
     let mut i: usize = 0;
     while i < b.len() {
-        if 1 < b[i] {
-            return false;
-        }
+        top = larger(top, b[i]);
         i += 1;
     }
-    true
+    top < 2
 }
 
 // A code is from 0 to 255.
@@ -71,15 +79,25 @@ fn first_black(b: &[u8], f: usize) -> bool
 }
 
 // The raster bytes for f, from the byte at `at` on.
-fn write_raster(b: &[u8], w: usize, h: usize, f: usize, buf: &mut [u8], at: usize) -> usize
-    requires { ⌜ (f ≤ 14) × (w ≡ 0 → f ≡ 14) × (length (now b) ≡ w * h) × (length (now b) ≤ 65536) × (allPixels (now b) ≡ true) × (at + length (rasterFor f w h (now b)) ≤ length (now buf)) ⌝ }
+fn write_raster(
+    b: &[u8],
+    w: usize,
+    h: usize,
+    f: usize,
+    first: Part,
+    lengths: &mut [u32; 512],
+    repeats: &mut [u32; 512],
+    buf: &mut [u8],
+    at: usize,
+) -> usize
+    requires { ⌜ (f ≤ 14) × (w ≡ 0 → f ≡ 14) × (length (now b) ≡ w * h) × (length (now b) ≤ 65536) × (allPixels (now b) ≡ true) × First (now b) w first (now lengths) (now repeats) × (at + length (rasterFor f w h (now b)) ≤ length (now buf)) ⌝ }
     ensures { λ r. ⌜ r ≡ at + length (rasterFor f w h (now (b .entry))) ⌝ }
     ensures { λ r. ⌜ now (buf .exit) ≡ take at (now (buf .entry)) ++ (rasterFor f w h (now (b .entry)) ++ drop r (now (buf .entry))) ⌝ }
 {
     if f == 14 {
         return bit_bytes::write_bits(b, buf, at);
     }
-    run_bytes::write_runs(b, w, h, f, buf, at)
+    run_bytes::write_runs(b, w, h, f, first, lengths, repeats, buf, at)
 }
 
 // A bitmap of w by h pixels with a code that 01 allows: 20, then 17, or the packet.
@@ -88,7 +106,10 @@ fn pack_judged(b: &[u8], w: usize, h: usize, m: Measures, buf: &mut [u8]) -> Pac
     ensures { λ r. ⌜ inNumbers r ≡ told (packAnswer (now (b .entry)) (said m) (now (buf .entry))) ⌝ }
     ensures { λ _. ⌜ now (buf .exit) ≡ packBuffer (now (b .entry)) (said m) (now (buf .entry)) ⌝ }
 {
-    let chosen = size::choose(b, w, h);
+    let mut lengths = [0u32; 512];
+    let mut repeats = [0u32; 512];
+    let chosen = size::choose(b, w, h, &mut lengths, &mut repeats);
+    let first = chosen.first;
     let f = chosen.f;
     let n = chosen.bytes;
     let form = pick::pick_form(m, n);
@@ -102,7 +123,7 @@ fn pack_judged(b: &[u8], w: usize, h: usize, m: Measures, buf: &mut [u8]) -> Pac
     }
     let black = first_black(b, f);
     let at = head::write_head(buf, f, black, m, form, n);
-    Packed::Length(write_raster(b, w, h, f, buf, at))
+    Packed::Length(write_raster(b, w, h, f, first, &mut lengths, &mut repeats, buf, at))
 }
 
 // Any bitmap, any measures, any buffer: 18, 19, 8, 20, 17 in this order, and the buffer stays as it was; or the packet's length, with

@@ -1,17 +1,21 @@
 -- Items written into a buffer, one run at a time. Assumes nothing.
-use Prim.Native.Nat.{ℕ, zero, suc, _+_, _-_, _*_, _/_, _≤_, _<_}
+use Prim.Native.Nat.{ℕ, zero, suc, _+_, _*_, _/_, _≤_, _<_}
 use mathlib.Core.Path.{_≡_, refl, sym, ap, _∙_}
 use mathlib.Core.List.{List, [], _∷_, _++_, append-assoc, append-nil}
+use native.Mathlib.Decide.{decLe}
+use native.Mathlib.Numerals.{add-one}
 use native.Mathlib.Omega.{arith}
-use lib.ListN.{length, take, drop, length-append}
+use lib.ListN.{length, take, drop, getD, length-append}
 use Rattle.format.specs.Packed.{encode}
-use Rattle.format.specs.Rasters.{Item, run, written, writings, rows}
-use Rattle.format.specs.Counts.{before, counts}
+use Rattle.format.specs.Rasters.{Item, run, written, writings}
+use Rattle.format.specs.Counts.{before}
 use Rattle.format.specs.Choice.{halves}
 use Rattle.format.proofs.HalfLaws.{length-halves}
 use Rattle.walk.specs.declared.Cursor.{Cursor}
-use Rattle.walk.specs.Walk.{itemsLeft, Inside, Next, begin}
-use Rattle.walk.proofs.BeginLaws.{begin-inside, begin-items}
+use Rattle.walk.specs.Walk.{itemsLeft, begin}
+use Rattle.part.specs.declared.Part.{Part}
+use Rattle.part.specs.Parts.{kept, Runs, Kept}
+use Rattle.part.proofs.KeptLaws.{kept-more}
 use Rattle.emit.specs.Nybbles.{putOne, putAll}
 use Rattle.emit.proofs.PutLaws.{length-puts, put-append, put-one, put-halves}
 use Rattle.run_bytes.specs.Put.{Room, Put}
@@ -42,10 +46,6 @@ run-is f k (suc (suc m)) is =
 run-one : (f k m : ℕ) → writings f (before m (run k ∷ [])) ≡ writings f (before m []) ++ encode f k
 unfolding writings
 run-one f k m = run-is f k m [] ∙ ap (λ (x : List ℕ). writings f (before m []) ++ x) (append-nil (encode f k))
-
--- A run with the repeat before it, and then the other items.
-run-then : (f k m : ℕ) (is : List Item) → writings f (before m (run k ∷ is)) ≡ writings f (before m (run k ∷ [])) ++ writings f is
-run-then f k m is = run-is f k m is ∙ sym (append-assoc (writings f (before m [])) (encode f k) (writings f is)) ∙ ap (λ (x : List ℕ). x ++ writings f is) (sym (run-one f k m))
 
 -- ---- one run
 
@@ -85,61 +85,99 @@ put-run d d₁ d₂ i j f k m r p g =
       is = g .1 ∙ rw (p .is, p .place, q, put-append (writings f (before m [])) (encode f k) d i) refl;
     }
 
--- ---- the walk
+-- ---- a part
 
--- Of the items to be written from i on into d, those at the cursor c are left, from the nybble at `to` on.
-pub record Writing (b : List ℕ) (w f : ℕ) (items : List Item) (d : List ℕ) (i : ℕ) (now : List ℕ) (to : ℕ) (c : Cursor) : Type 0 where
-  pub inside : Inside b w c
-  pub place : to + length (writings f (itemsLeft b w c)) ≡ i + length (writings f items)
-  pub room : Room d i (writings f items)
+writings-append : (f : ℕ) (is js : List Item) → writings f (is ++ js) ≡ writings f is ++ writings f js
+unfolding writings
+writings-append f [] js = refl
+writings-append f (i ∷ is) js = ap (λ (x : List ℕ). written f i ++ x) (writings-append f is js) ∙ sym (append-assoc (written f i) (writings f is) (writings f js))
+
+-- The nybbles of one run more, and those of some of the runs are no more than those of all.
+writings-kept : (f j : ℕ) (ls rs : List ℕ) → writings f (kept (j + 1) ls rs) ≡ writings f (kept j ls rs) ++ writings f (before (getD rs j 0) (run (getD ls j 0) ∷ []))
+writings-kept f j ls rs = ap (writings f) (kept-more j ls rs) ∙ writings-append f (kept j ls rs) (before (getD rs j 0) (run (getD ls j 0) ∷ []))
+
+kept-long : (f j n : ℕ) (ls rs : List ℕ) → j ≤ n → length (writings f (kept j ls rs)) ≤ length (writings f (kept n ls rs))
+kept-long f j zero ls rs h = let e : j ≡ 0 = omega arith in rw e (omega arith)
+kept-long f j (suc n) ls rs h = elim (decLe j n) [
+  | yes l ↦ omega (arith, kept-long f j n ls rs l, rw (add-one n) at (ap length (writings-kept f n ls rs)), length-append (writings f (kept n ls rs)) (writings f (before (getD rs n 0) (run (getD ls n 0) ∷ []))))
+  | no l ↦ (let e : j ≡ suc n = omega arith in rw e (omega arith))
+]
+
+-- The buffer stays as long; nybbles behind nybbles.
+pub put-same : {d after xs : List ℕ} {i r : ℕ} → Put d i xs r after → length after ≡ length d
+put-same {d} {after} {xs} {i} p = ap length (p .is) ∙ length-puts xs d i
+
+put-then : {d now then xs ys : List ℕ} {i to r : ℕ} → Put d i xs to now → Put now to ys r then → Put d i (xs ++ ys) r then
+put-then {d} {now} {then} {xs} {ys} {i} p q = record {
+  place = omega (arith, p .place, q .place, length-append xs ys);
+  is = q .is ∙ rw (p .is, p .place, put-append xs ys d i) refl;
+}
+
+-- No run of a part is written; the next one is as write_run asks it, and is written.
+pub part-none : (d : List ℕ) (i f : ℕ) (ls rs : List ℕ) → Put d i (writings f (kept 0 ls rs)) i d
+unfolding kept writings
+part-none d i f ls rs = record { place = omega arith; is = sym (put-none d i) }
+
+module _ (f : ℕ) {n j i to : ℕ} {d now ls rs : List ℕ} (p : Put d i (writings f (kept j ls rs)) to now) (g : Runs n ls rs) (l : j < n) where
+  pub part-asks : f ≤ 13 → Room d i (writings f (kept n ls rs))
+      → (f ≤ 13) × (1 ≤ getD ls j 0) × (getD ls j 0 ≤ 65536) × (getD rs j 0 ≤ 65536) × Room now to (writings f (before (getD rs j 0) (run (getD ls j 0) ∷ [])))
+  part-asks h m =
+      let xs = writings f (kept j ls rs) in
+      (h, g .some j l, g .many j l, g .few j l, omega (arith, p .place, put-same p, kept-long f (j + 1) n ls rs (omega arith), ap length (writings-kept f j ls rs), length-append xs (writings f (before (getD rs j 0) (run (getD ls j 0) ∷ [])))))
+
+  pub part-more : {r : ℕ} {then : List ℕ} → Put now to (writings f (before (getD rs j 0) (run (getD ls j 0) ∷ []))) r then → Put d i (writings f (kept (j + 1) ls rs)) r then
+  part-more q = rw (writings-kept f j ls rs) (put-then p q)
+
+-- ---- part after part
+
+-- Of the items to be written from i on into d, those left where the part p begins are left, from the nybble at `to` on.
+pub record Writing (b : List ℕ) (w f : ℕ) (d : List ℕ) (i : ℕ) (now : List ℕ) (to : ℕ) (ls rs : List ℕ) (p : Part) : Type 0 where
+  pub from : Cursor
+  pub part : Kept b w from ls rs p
+  pub place : to + length (writings f (itemsLeft b w from)) ≡ i + length (writings f (itemsLeft b w begin))
+  pub room : Room d i (writings f (itemsLeft b w begin))
   pub same : length now ≡ length d
-  pub is : putAll d i (writings f items) ≡ putAll now to (writings f (itemsLeft b w c))
+  pub is : putAll d i (writings f (itemsLeft b w begin)) ≡ putAll now to (writings f (itemsLeft b w from))
 
-pub writing-start : (b : List ℕ) (w h f : ℕ) (d : List ℕ) (i : ℕ) (c : Cursor) → c ≡ begin → 0 < w → length b ≡ w * h → length b ≤ 65536 → Room d i (writings f (counts (rows w h b)))
-    → Writing b w f (counts (rows w h b)) d i d i c
-writing-start b w h f d i c q p n l m =
-    let e : itemsLeft b w c ≡ counts (rows w h b) = ap (itemsLeft b w) q ∙ begin-items b w h p n in
-    record { inside = rw q (begin-inside b w h p n l); place = rw e refl; room = m; same = refl; is = rw e refl }
+pub writing-start : {b : List ℕ} {w f i : ℕ} {d ls rs : List ℕ} {p : Part} → Kept b w begin ls rs p → Room d i (writings f (itemsLeft b w begin)) → Writing b w f d i d i ls rs p
+writing-start g m = record { from = begin; part = g; place = refl; room = m; same = refl; is = refl }
 
--- What is left at a cursor: the next run, and what is left behind it.
-step-is : {b : List ℕ} {w k m : ℕ} {e : Cursor} (f : ℕ) (c : Cursor) → Next b w c k m e → writings f (itemsLeft b w c) ≡ writings f (before m (run k ∷ [])) ++ writings f (itemsLeft b w e)
-step-is {b} {w} {k} {m} {e} f c g = ap (writings f) (g .items) ∙ run-then f k m (itemsLeft b w e)
+module _ {b : List ℕ} {w f i to : ℕ} {d now ls rs : List ℕ} {p : Part} (s : Writing b w f d i now to ls rs p) where
+  -- What is left: the part, and what is left behind it.
+  left-is : writings f (itemsLeft b w (s .from)) ≡ writings f (kept (p .n) ls rs) ++ writings f (itemsLeft b w (p .cursor))
+  left-is = ap (writings f) (s .part .walked .items) ∙ writings-append f (kept (p .n) ls rs) (itemsLeft b w (p .cursor))
 
--- The next run is as write_run asks it; less is left behind it; and once it is written, the rest is to be written.
-pub writing-asks : {b : List ℕ} {w f : ℕ} {items : List Item} {d : List ℕ} {i : ℕ} {now : List ℕ} {to : ℕ} {c e : Cursor} {k m : ℕ} → Writing b w f items d i now to c → Next b w c k m e
-    → f ≤ 13 → (f ≤ 13) × (1 ≤ k) × (k ≤ 65536) × (m ≤ 65536) × Room now to (writings f (before m (run k ∷ [])))
-writing-asks {b} {w} {f} {c = c} {e} {k} {m} s g n =
-    let l = g .inside .small in (
-      n,
-      g .some,
-      omega (arith, g .many),
-      omega (arith, g .few),
-      omega (arith, s .place, s .room, s .same, ap length (step-is f c g), length-append (writings f (before m (run k ∷ []))) (writings f (itemsLeft b w e))),
-    )
+  left-long : length (writings f (itemsLeft b w (s .from))) ≡ length (writings f (kept (p .n) ls rs)) + length (writings f (itemsLeft b w (p .cursor)))
+  left-long = ap length left-is ∙ length-append (writings f (kept (p .n) ls rs)) (writings f (itemsLeft b w (p .cursor)))
 
-pub writing-less : {b : List ℕ} {w : ℕ} {c e : Cursor} {k m : ℕ} → Next b w c k m e → length b - e .at < length b - c .at
-writing-less g = let i = g .inside in omega (arith, g .further, i .in-row, i .after, i .whole)
+  -- The part is as write_part asks it.
+  pub writing-asks : f ≤ 13 → (f ≤ 13) × (p .n ≤ 512) × Runs (p .n) ls rs × Room now to (writings f (kept (p .n) ls rs))
+  writing-asks h = (h, s .part .walked .most, s .part .walked .runs, omega (arith, s .place, s .room, s .same, left-long))
 
-pub writing-more : {b : List ℕ} {w f : ℕ} {items : List Item} {d : List ℕ} {i : ℕ} {now then : List ℕ} {to r : ℕ} {c e : Cursor} {k m : ℕ} → Writing b w f items d i now to c → Next b w c k m e
-    → Put now to (writings f (before m (run k ∷ []))) r then → Writing b w f items d i then r e
-writing-more {b} {w} {f} {now = now} {to = to} {c = c} {e} {k} {m} s g p =
-    let q = step-is f c g in
-    let xs = writings f (before m (run k ∷ [])) in
-    let ys = writings f (itemsLeft b w e) in
-    record {
-      inside = g .inside;
-      place = omega (arith, s .place, p .place, ap length q, length-append xs ys);
+  module _ {r : ℕ} {then : List ℕ} (q : Put now to (writings f (kept (p .n) ls rs)) r then) where
+    -- Once it is written, the rest is to be written.
+    rest-is : putAll d i (writings f (itemsLeft b w begin)) ≡ putAll then r (writings f (itemsLeft b w (p .cursor)))
+    rest-is =
+        let xs = writings f (kept (p .n) ls rs) in
+        let ys = writings f (itemsLeft b w (p .cursor)) in
+        s .is ∙ ap (putAll now to) left-is ∙ put-append xs ys now to ∙ sym (rw (q .is, q .place) refl)
+
+    pub writing-more : {ks ms : List ℕ} {o : Part} → Kept b w (p .cursor) ks ms o → Writing b w f d i then r ks ms o
+    writing-more g = record {
+      from = p .cursor;
+      part = g;
+      place = omega (arith, s .place, q .place, left-long);
       room = s .room;
-      same = ap length (p .is) ∙ length-puts xs now to ∙ s .same;
-      is = s .is ∙ ap (putAll now to) q ∙ put-append xs ys now to ∙ sym (rw (p .is, p .place) refl);
+      same = put-same q ∙ s .same;
+      is = rest-is;
     }
 
--- No item is left: all are written.
-pub writing-end : {b : List ℕ} {w f : ℕ} {items : List Item} {d : List ℕ} {i : ℕ} {now : List ℕ} {to : ℕ} {c : Cursor} → Writing b w f items d i now to c → itemsLeft b w c ≡ [] → Put d i (writings f items) to now
-unfolding writings
-writing-end {b} {w} {f} {now = now} {to = to} {c = c} s e =
-    let q : writings f (itemsLeft b w c) ≡ [] = ap (writings f) e in
-    record { place = omega (arith, s .place, ap length q); is = sym (s .is ∙ ap (putAll now to) q ∙ put-none now to) }
+    -- No item is left: all are written.
+    pub writing-end : p .n < 512 → Put d i (writings f (itemsLeft b w begin)) r then
+    unfolding writings
+    writing-end l =
+        let e : writings f (itemsLeft b w (p .cursor)) ≡ [] = ap (writings f) (s .part .over l) in
+        record { place = omega (arith, s .place, q .place, left-long, ap length e); is = sym (rest-is ∙ ap (putAll then r) e ∙ put-none then r) }
 
 -- ---- the bytes
 

@@ -13,8 +13,10 @@ use Rattle.format.specs.Counts.{counts}
 use Rattle.format.specs.Choice.{nybbleCount, fewest, chosen, rasterOf}
 use Rattle.format.proofs.HalfLaws.{length-halves, length-bit-bytes}
 use Rattle.format.proofs.ChoiceLaws.{fewest-least, least-one}
+use Rattle.walk.proofs.BeginLaws.{begin-items}
+use Rattle.part.specs.declared.Part.{Part}
 use Rattle.size.specs.declared.Chosen.{Chosen}
-use Rattle.size.specs.Sizes.{Sizes, Best, IsChosen}
+use Rattle.size.specs.Sizes.{Sizes, Sized, Best, IsChosen}
 
 -- ---- the least
 
@@ -63,6 +65,10 @@ unfolding rasterOf nybbleCount
 runs-length f is b h = rw (ne-eqb f 14 (λ e. omega arith)) (sym (length-halves (writings f is)))
 
 -- ---- the choice
+
+-- The sizes of what is left before the first pixel are those of the count list.
+pub counted : {b : List ℕ} {w : ℕ} {p : Part} {t ls rs : List ℕ} (h : ℕ) → 0 < w → length b ≡ w * h → Sized b w p t ls rs → Sizes (counts (rows w h b)) t
+counted {b} {w} h z e s = rw (begin-items b w h z e) at (s .sizes)
 
 chosen-some : (w h : ℕ) (is : List Item) → 0 < w → chosen w h is ≡ cond (ltb (bytesOfBits (w * h)) ((nybbleCount is (fewest is) + 1) / 2)) 14 (fewest is)
 unfolding chosen

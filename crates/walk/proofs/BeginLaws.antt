@@ -9,7 +9,7 @@ use Rattle.format.specs.Rasters.{rows}
 use Rattle.format.specs.Counts.{Pixel, kept, strung, runs, listed, counts}
 use Rattle.walk.specs.Walk.{itemsLeft, Inside, begin}
 use Rattle.walk.proofs.RowLaws.{rows-are}
-use Rattle.walk.proofs.StepLaws.{left-full}
+use Rattle.walk.proofs.LeftLaws.{left-full}
 
 -- It is in the bitmap.
 pub begin-inside : (b : List ℕ) (w h : ℕ) → 0 < w → length b ≡ w * h → length b ≤ 65536 → Inside b w begin

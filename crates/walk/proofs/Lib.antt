@@ -1,5 +1,5 @@
 pub mod PixelLaws
 pub mod RowLaws
-pub mod StepLaws
+pub mod LeftLaws
 pub mod RunLaws
 pub mod BeginLaws

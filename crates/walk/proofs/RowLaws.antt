@@ -6,15 +6,14 @@ use mathlib.Core.Bool.{true, false, _&&_, and-false}
 use native.Mathlib.Nat.{mul-div-cancel}
 use native.Mathlib.Numerals.{add-one}
 use native.Mathlib.Omega.{arith}
-use lib.Dec.{eqb}
 use lib.ListN.{length, take, drop, replicate}
 use lib.Seq.{drop-drop}
-use borrow.Author.Tests.{eqb-true, eq-eqb}
 use Rattle.format.specs.Lists.{same}
 use Rattle.format.specs.Rasters.{rows}
 use Rattle.format.specs.Counts.{mixed, Kept, row, above, kept}
-use Rattle.format.proofs.Tests.{test, and-true}
+use Rattle.format.proofs.Tests.{test}
 use Rattle.walk.specs.Walk.{rowsFrom, RowAt, Removal}
+use Rattle.walk.proofs.PixelLaws.{same-is, same-self}
 
 -- ---- the rows from a place on
 
@@ -61,31 +60,16 @@ unfolding kept above
 kept-apart r [] a = refl
 kept-apart r (s ∷ rs) a = above-above r s (kept rs) a
 
--- Rows that are the same are equal.
-same-is : (r s : List ℕ) → same r s ≡ true → r ≡ s
-unfolding same
-same-is [] [] e = refl
-same-is [] (y ∷ s) e = cc
-same-is (x ∷ r) [] e = cc
-same-is (x ∷ r) (y ∷ s) e =
-    let w = and-true (eqb x y) (same r s) e in
-    rw (eqb-true x y (w .0), same-is r s (w .1)) refl
-
-same-self : (r : List ℕ) → same r r ≡ true
-unfolding same
-same-self [] = refl
-same-self (x ∷ r) = rw (eq-eqb x x refl) (same-self r)
-
 -- A row equal to the first kept takes its place, with one repeat more.
 above-same : (r : List ℕ) (n : ℕ) (ks : List Kept) → mixed r ≡ true → above r (row r n ∷ ks) ≡ row r (suc n) ∷ ks
 unfolding above
 above-same r n ks m = rw (m, same-self r, add-one n) refl
 
--- Of a mixed row and n rows equal to it, the first is kept.
-kept-times : (n : ℕ) (r : List ℕ) (rs : List (List ℕ)) → mixed r ≡ true → Apart r rs → kept (r ∷ (replicate n r ++ rs)) ≡ row r n ∷ kept rs
+-- Of a row and n rows equal to it, the first is kept, if it is mixed or n is 0.
+kept-times : (n : ℕ) (r : List ℕ) (rs : List (List ℕ)) → (0 < n → mixed r ≡ true) → Apart r rs → kept (r ∷ (replicate n r ++ rs)) ≡ row r n ∷ kept rs
 unfolding kept
 kept-times zero r rs m a = kept-apart r rs a
-kept-times (suc n) r rs m a = ap (above r) (kept-times n r rs m a) ∙ above-same r n (kept rs) m
+kept-times (suc n) r rs m a = let e = m (omega arith) in ap (above r) (kept-times n r rs (λ h. e) a) ∙ above-same r n (kept rs) e
 
 times-more : (n : ℕ) (r : List ℕ) (rs : List (List ℕ)) → replicate n r ++ (r ∷ rs) ≡ replicate (n + 1) r ++ rs
 times-more n r rs = rw (add-one n) (go n)
@@ -98,13 +82,23 @@ apart-plain : (r : List ℕ) (rs : List (List ℕ)) → mixed r ≡ false → Ap
 apart-plain r [] m = tt
 apart-plain r (s ∷ rs) m = rw m refl
 
+-- The first row is kept, whatever follows.
+above-first : (r : List ℕ) (ks : List Kept) → (n : ℕ) × (l : List Kept) × (above r ks ≡ row r n ∷ l)
+unfolding above
+above-first r [] = (0, [], refl)
+above-first r (row s n ∷ ks) = test (mixed r && same r s) (λ e. (n + 1, ks, rw e refl)) (λ e. (0, row s n ∷ ks, rw e refl))
+
+pub kept-first : (r : List ℕ) (rs : List (List ℕ)) → (n : ℕ) × (l : List Kept) × (kept (r ∷ rs) ≡ row r n ∷ l)
+unfolding kept
+kept-first r rs = above-first r (kept rs)
+
 -- ---- the loop
 
 -- The n rows under the one at a place, up to `next`, are equal to it.
 pub record Equal (b : List ℕ) (w at next n : ℕ) : Type 0 where
   pub wide : 0 < w
   pub after : n + at + w ≤ next
-  pub mix : mixed (take w (drop at b)) ≡ true
+  pub mix : 0 < n → mixed (take w (drop at b)) ≡ true
   pub is : rowsFrom b w at ≡ take w (drop at b) ∷ (replicate n (take w (drop at b)) ++ rowsFrom b w next)
   pub more-rows : ℕ
   pub whole : next + more-rows * w ≡ length b
@@ -113,30 +107,27 @@ pub row-whole : {b : List ℕ} {w at : ℕ} → RowAt b w at → at + w ≤ leng
 row-whole {b} {w} {at} r = omega (arith, row-off w at (r .more-rows) (length b) (r .whole) (r .more))
 
 -- Before the first; a row more; a row that differs; no row left.
-pub equal-start : {b : List ℕ} {w at : ℕ} → RowAt b w at → mixed (take w (drop at b)) ≡ true → Equal b w at (at + w) 0
-equal-start {b} {w} {at} r m = record {
+pub equal-start : {b : List ℕ} {w at : ℕ} → RowAt b w at → Equal b w at (at + w) 0
+equal-start {b} {w} {at} r = record {
   wide = r .wide;
   after = omega arith;
-  mix = m;
+  mix = λ h. absurd (omega arith);
   is = rows-first b w at (r .more-rows) (r .wide) (r .whole) (r .more);
   more-rows = r .more-rows - 1;
   whole = row-off w at (r .more-rows) (length b) (r .whole) (r .more);
 }
 
-pub equal-row : {b : List ℕ} {w at next n : ℕ} → Equal b w at next n → at + w ≤ length b
-equal-row e = omega (arith, e .after, e .whole)
+pub equal-room : {b : List ℕ} {w at next n : ℕ} → Equal b w at next n → next < length b → (at ≤ next) × (next + w ≤ length b)
+equal-room {b} {w} {at} {next} e h = (omega (arith, e .after), omega (arith, row-off w next (e .more-rows) (length b) (e .whole) h))
 
-pub equal-room : {b : List ℕ} {w at next n : ℕ} → Equal b w at next n → next < length b → next + w ≤ length b
-equal-room {b} {w} {at} {next} e h = omega (arith, row-off w next (e .more-rows) (length b) (e .whole) h)
-
-pub equal-more : {b : List ℕ} {w at next n : ℕ} → Equal b w at next n → next < length b → same (take w (drop at b)) (take w (drop next b)) ≡ true → Equal b w at (next + w) (n + 1)
-equal-more {b} {w} {at} {next} {n} e h s =
+pub equal-more : {b : List ℕ} {w at next n : ℕ} → Equal b w at next n → next < length b → same (take w (drop at b)) (take w (drop next b)) ≡ true → mixed (take w (drop at b)) ≡ true → Equal b w at (next + w) (n + 1)
+equal-more {b} {w} {at} {next} {n} e h s m =
     let r = take w (drop at b) in
     let f : rowsFrom b w next ≡ r ∷ rowsFrom b w (next + w) = rows-first b w next (e .more-rows) (e .wide) (e .whole) h ∙ ap (λ (x : List ℕ). x ∷ rowsFrom b w (next + w)) (sym (same-is r (take w (drop next b)) s)) in
     record {
       wide = e .wide;
       after = omega (arith, e .after, e .wide);
-      mix = e .mix;
+      mix = λ l. m;
       is = e .is ∙ ap (λ (x : List (List ℕ)). r ∷ (replicate n r ++ x)) f ∙ ap (λ (x : List (List ℕ)). r ∷ x) (times-more n r (rowsFrom b w (next + w)));
       more-rows = e .more-rows - 1;
       whole = row-off w next (e .more-rows) (length b) (e .whole) h;
@@ -159,11 +150,5 @@ pub equal-end : {b : List ℕ} {w at next n : ℕ} → Equal b w at next n → l
 equal-end {b} {w} {at} {next} e h = removal e (rw (rows-none b w next (e .more-rows) (e .wide) (e .whole) h) tt)
 
 -- A row that is not mixed has no repeats.
-pub plain-row : {b : List ℕ} {w at : ℕ} → RowAt b w at → mixed (take w (drop at b)) ≡ false → Removal b w at (at + w) 0
-plain-row {b} {w} {at} r m = record {
-  is = ap kept (rows-first b w at (r .more-rows) (r .wide) (r .whole) (r .more)) ∙ kept-apart (take w (drop at b)) (rowsFrom b w (at + w)) (apart-plain (take w (drop at b)) (rowsFrom b w (at + w)) m);
-  after = omega arith;
-  few = omega arith;
-  more-rows = r .more-rows - 1;
-  whole = row-off w at (r .more-rows) (length b) (r .whole) (r .more);
-}
+pub equal-plain : {b : List ℕ} {w at next n : ℕ} → Equal b w at next n → mixed (take w (drop at b)) ≡ false → Removal b w at next n
+equal-plain {b} {w} {at} {next} e m = removal e (apart-plain (take w (drop at b)) (rowsFrom b w next) m)

@@ -1,17 +1,16 @@
 -- What is left of the count list at a cursor, and what the functions of this crate answer. Assumes nothing: these are definitions.
-use Prim.Native.Nat.{ℕ, _+_, _-_, _*_, _/_, _≤_, _<_}
+use Prim.Native.Nat.{ℕ, zero, suc, _+_, _-_, _*_, _/_, _≤_, _<_}
 use mathlib.Core.Path.{_≡_}
 use mathlib.Core.List.{List, [], _∷_, _++_}
 use mathlib.Core.Bool.{cond}
 use lib.Dec.{eqb}
-use lib.ListN.{length, take, drop}
+use lib.ListN.{length, take, drop, getD, replicate}
 use Rattle.format.specs.Rasters.{Item, run, rows}
 use Rattle.format.specs.Counts.{row, kept, Pixel, pixel, placed, lastOf, strung, stretch, runs, before, listed}
+use Rattle.scan.specs.Scan.{FirstOther}
 use Rattle.walk.specs.declared.Cursor.{Cursor}
 use Rattle.walk.specs.declared.Count.{Count}
 use Rattle.walk.specs.declared.Count.the-variants as C
-use Rattle.walk.specs.declared.Step.{Step}
-use Rattle.walk.specs.declared.Step.the-variants as S
 
 -- The rows of w pixels from a place on.
 unfoldable pub rowsFrom : List ℕ → ℕ → ℕ → List (List ℕ)
@@ -73,30 +72,53 @@ pub record Removal (b : List ℕ) (w at next n : ℕ) : Type 0 where
   pub more-rows : ℕ
   pub whole : next + more-rows * w ≡ length b
 
--- The pixel x at the cursor c.
-abbrev pub stepOf : ℕ → Cursor → Step
-stepOf x c =
-    S.One x (cond (eqb x (c .before)) 0 (c .owed))
-    (record { at = c .at + 1; end = c .end; next = c .next; owed = cond (eqb x (c .before)) (c .owed) 0; before = x })
-
--- The pixel x with the repeat m before it is next, and d is the cursor after it.
-pub record Stepped (b : List ℕ) (w : ℕ) (c : Cursor) (x m : ℕ) (d : Cursor) : Type 0 where
-  pub is : left b w c ≡ pixel x m ∷ left b w d
+-- The cursor d in the next row, where the row of c is full: the same is left.
+pub record Entered (b : List ℕ) (w : ℕ) (c d : Cursor) : Type 0 where
+  pub is : left b w c ≡ left b w d
   pub inside : Inside b w d
-  pub before : d .before ≡ x
-  pub free : x ≡ c .before → m ≡ 0
-  pub further : c .at < d .at
+  pub before : d .before ≡ c .before
+  pub at : d .at ≡ c .next
+  pub end : d .end ≡ c .next + w
+
+-- r is the repeat that stands before a pixel x, of those owed.
+pub record Standing (x before owed r : ℕ) : Type 0 where
+  pub is : r ≡ cond (eqb x before) 0 owed
+  pub most : r ≤ owed
+
+-- The cursor behind n pixels x of its row, with the repeat m before the first.
+abbrev pub ahead : Cursor → ℕ → ℕ → ℕ → Cursor
+ahead c x n m = record { at = c .at + n; end = c .end; next = c .next; owed = c .owed - m; before = x }
+
+-- The first k pixels of a run of x, with the repeat m before it.
+unfoldable pub begun : ℕ → ℕ → ℕ → List Pixel
+begun x zero m = []
+begun x (suc k) m = pixel x m ∷ replicate k (pixel x 0)
+
+-- A run of x has k pixels where the row of c is full, or has none and the next row begins it.
+pub record Open (b : List ℕ) (w x k m : ℕ) (c : Cursor) : Type 0 where
+  pub inside : Inside b w c
+  pub full : c .end ≤ c .at
+  pub before : 0 < k → c .before ≡ x
+  pub none : k ≡ 0 → m ≡ 0
+  pub next : k ≡ 0 → (c .next < length b) × (getD b (c .next) 0 ≡ x)
+  pub many : k ≤ c .at
   pub few : m ≤ length b
 
--- The next pixel, or the end.
-abbrev pub Seen : List ℕ → ℕ → Cursor → Step → Type 0
-Seen b w c (S.One x m d) = Stepped b w c x m d
-Seen b w c S.Over = left b w c ≡ []
-
--- The run that begins with a pixel x before the cursor c has k pixels, and d is the cursor after it.
-pub record Stretched (b : List ℕ) (w x : ℕ) (c : Cursor) (k : ℕ) (d : Cursor) : Type 0 where
-  pub is : (m : ℕ) → runs (pixel x m ∷ left b w c) ≡ stretch x k m ∷ runs (left b w d)
-  pub some : 0 < k
-  pub many : k ≤ d .at
-  pub further : c .at ≤ d .at
+-- The run of x that has k pixels before c has n in all, with the repeat r before it, and d is the cursor after it.
+pub record Closed (b : List ℕ) (w x k m : ℕ) (c : Cursor) (n r : ℕ) (d : Cursor) : Type 0 where
+  pub is : runs (begun x k m ++ left b w c) ≡ stretch x n r ∷ runs (left b w d)
+  pub some : 0 < n
+  pub many : n ≤ length b
+  pub few : r ≤ length b
+  pub further : c .at + n ≤ d .at + k
   pub inside : Inside b w d
+
+-- The answer is such a run.
+abbrev pub Ended : List ℕ → ℕ → ℕ → ℕ → ℕ → Cursor → Count → Type 0
+Ended b w x k m c (C.Run n r d) = Closed b w x k m c n r d
+Ended b w x k m c C.Done = ⊥
+
+-- The next run at c, of the colour x: n of its pixels are in the row, with the repeat m before them, and d is the cursor after them; or the row is full.
+pub data InRow (b : List ℕ) (c : Cursor) : ℕ → ℕ → ℕ → Cursor → Type 0 where
+  full : c .end ≤ c .at → c .next < length b → InRow b c (getD b (c .next) 0) 0 0 c
+  some : {n m : ℕ} → c .at < c .end → FirstOther b (c .at) (c .end - c .at) (getD b (c .at) 0) n → Standing (getD b (c .at) 0) (c .before) (c .owed) m → InRow b c (getD b (c .at) 0) n m (ahead c (getD b (c .at) 0) n m)

@@ -1,10 +1,10 @@
 // The count list of a bitmap, one run at a time, with no list stored: a cursor by value walks the rows kept.
 ghost use Prim.Native.Nat.{_+_, _≤_, _<_};
 ghost use mathlib.Core.Path.{_≡_};
-ghost use lib.ListN.{length, take, drop, getD};
-ghost use Rattle.format.specs.Lists.{all, same};
+ghost use lib.ListN.{length, take, drop};
+ghost use Rattle.format.specs.Lists.{same};
 ghost use Rattle.format.specs.Counts.{mixed};
-ghost use Rattle.walk.specs.Walk.{begin, Inside, Counted, RowAt, Removal, stepOf, Seen, Stretched};
+ghost use Rattle.walk.specs.Walk.{begin, Inside, Counted, RowAt, Removal, Entered, Standing, Open, Ended, InRow};
 
 // A place in the joined string: the next pixel and the end of its row, where the next row kept begins, the repeats of this row that
 // have not found their place, and the pixel before.
@@ -22,15 +22,11 @@ pub enum Count {
     Done,
 }
 
-// The next pixel with the repeat that stands before it, and the cursor after it.
-enum Step {
-    One(u8, usize, Cursor),
-    Over,
-}
-
-// The length of a run, and the cursor after it.
+// A run as far as it is taken: its colour and length, the repeat that stands before it, and the cursor after it.
 struct Taken {
+    colour: u8,
     length: usize,
+    repeat: usize,
     cursor: Cursor,
 }
 
@@ -40,54 +36,25 @@ struct Removed {
     n: usize,
 }
 
-// Every one of the n pixels from at on is c.
-fn all_of(b: &[u8], at: usize, n: usize, c: u8) -> bool
-    requires { ⌜ at + n ≤ length (now b) ⌝ }
-    ensures { λ r. ⌜ r ≡ all c (take n (drop at (now (b .entry)))) ⌝ }
-{
-    let mut i = at;
-    let mut m = n;
-    while 0 < m {
-        if b[i] != c {
-            return false;
-        }
-        i += 1;
-        m -= 1;
-    }
-    true
-}
-
 // The row of w pixels from at on is neither all white nor all black.
 fn mixed_row(b: &[u8], at: usize, w: usize) -> bool
-    requires { ⌜ at + w ≤ length (now b) ⌝ }
+    requires { ⌜ (0 < w) × (at + w ≤ length (now b)) ⌝ }
     ensures { λ r. ⌜ r ≡ mixed (take w (drop at (now (b .entry)))) ⌝ }
 {
-    if all_of(b, at, w, 0) {
-        return false;
+    let x = b[at];
+    let k = scan::first_other(b, at, w, x);
+    if k < w {
+        return true;
     }
-    if all_of(b, at, w, 1) {
-        return false;
-    }
-    true
+    1 < x
 }
 
 // The rows of w pixels from x and from y on are equal.
 fn same_rows(b: &[u8], x: usize, y: usize, w: usize) -> bool
-    requires { ⌜ (x + w ≤ length (now b)) × (y + w ≤ length (now b)) ⌝ }
+    requires { ⌜ (x ≤ y) × (y + w ≤ length (now b)) ⌝ }
     ensures { λ r. ⌜ r ≡ same (take w (drop x (now (b .entry)))) (take w (drop y (now (b .entry)))) ⌝ }
 {
-    let mut i = x;
-    let mut j = y;
-    let mut m = w;
-    while 0 < m {
-        if b[i] != b[j] {
-            return false;
-        }
-        i += 1;
-        j += 1;
-        m -= 1;
-    }
-    true
+    scan::first_difference(b, x, y, w) == w
 }
 
 // The rows under the one at `at` that are removed and counted as its repeats.
@@ -97,12 +64,14 @@ fn repeats_of(b: &[u8], w: usize, at: usize) -> Removed
 {
     let mut next = at + w;
     let mut n: usize = 0;
-    if !mixed_row(b, at, w) {
-        return Removed { next, n };
-    }
     while next < b.len() {
         if !same_rows(b, at, next, w) {
             return Removed { next, n };
+        }
+        if n == 0 {
+            if !mixed_row(b, at, w) {
+                return Removed { next, n };
+            }
         }
         next += w;
         n += 1;
@@ -110,87 +79,92 @@ fn repeats_of(b: &[u8], w: usize, at: usize) -> Removed
     Removed { next, n }
 }
 
-// The next pixel where the row is not full.
-fn in_row(b: &[u8], c: Cursor) -> Step
-    requires { ⌜ (c .at < c .end) × (c .end ≤ length (now b)) ⌝ }
-    ensures { λ r. ⌜ r ≡ stepOf (getD (now (b .entry)) (c .at) 0) c ⌝ }
+// The cursor in the next row, where its row is full.
+fn enter(b: &[u8], w: usize, c: Cursor) -> Cursor
+    requires { ⌜ (Inside (now b) w c) × (c .end ≤ c .at) × (c .next < length (now b)) ⌝ }
+    ensures { λ r. ⌜ Entered (now (b .entry)) w c r ⌝ }
 {
-    let at = c.at;
-    let x = b[at];
-    if x == c.before {
-        return Step::One(
-            x,
-            0,
-            Cursor {
-                at: at + 1,
-                end: c.end,
-                next: c.next,
-                owed: c.owed,
-                before: x,
-            },
-        );
-    }
-    Step::One(
-        x,
-        c.owed,
-        Cursor {
-            at: at + 1,
-            end: c.end,
-            next: c.next,
-            owed: 0,
-            before: x,
-        },
-    )
-}
-
-// The next pixel of the joined string.
-fn next_pixel(b: &[u8], w: usize, c: Cursor) -> Step
-    requires { ⌜ Inside (now b) w c ⌝ }
-    ensures { λ r. ⌜ Seen (now (b .entry)) w c r ⌝ }
-{
-    if c.at < c.end {
-        return in_row(b, c);
-    }
     let at = c.next;
-    if b.len() <= at {
-        return Step::Over;
-    }
     let r = repeats_of(b, w, at);
-    in_row(
-        b,
-        Cursor {
-            at,
-            end: at + w,
-            next: r.next,
-            owed: r.n,
-            before: c.before,
-        },
-    )
+    Cursor {
+        at,
+        end: at + w,
+        next: r.next,
+        owed: r.n,
+        before: c.before,
+    }
 }
 
-// The run that begins with a pixel x goes on from c.
-fn run_on(b: &[u8], w: usize, x: u8, c: Cursor) -> Taken
-    requires { ⌜ (Inside (now b) w c) × (c .before ≡ x) × (1 ≤ c .at) ⌝ }
-    ensures { λ r. ⌜ Stretched (now (b .entry)) w x c (r .length) (r .cursor) ⌝ }
+// The repeat that stands before a pixel x, of those owed.
+fn repeat_before(x: u8, before: u8, owed: usize) -> usize
+    ensures { λ r. ⌜ Standing x before owed r ⌝ }
 {
-    let mut k: usize = 1;
+    if x == before {
+        return 0;
+    }
+    owed
+}
+
+// The run of x that has k pixels, where its row is full, with the repeat m before it, goes on in the rows that follow.
+fn across(b: &[u8], w: usize, x: u8, k: usize, m: usize, c: Cursor) -> Count
+    requires { ⌜ Open (now b) w x k m c ⌝ }
+    ensures { λ r. ⌜ Ended (now (b .entry)) w x k m c r ⌝ }
+{
+    let mut length = k;
+    let mut repeat = m;
     let mut d = c;
     loop {
-        let n = next_pixel(b, w, d);
-        let Step::One(y, _, e) = n else {
-            return Taken {
-                length: k,
-                cursor: d,
-            };
-        };
-        if y != x {
-            return Taken {
-                length: k,
-                cursor: d,
-            };
+        let next = d.next;
+        if b.len() <= next {
+            return Count::Run(length, repeat, d);
         }
-        k += 1;
-        d = e;
+        if b[next] != x {
+            return Count::Run(length, repeat, d);
+        }
+        d = enter(b, w, d);
+        let n = scan::first_other(b, d.at, d.end - d.at, x);
+        let r = repeat_before(x, d.before, d.owed);
+        length += n;
+        repeat += r;
+        d.at += n;
+        d.owed -= r;
+        d.before = x;
+        if d.at < d.end {
+            return Count::Run(length, repeat, d);
+        }
+    }
+}
+
+// The next run as far as it goes in its row; where the row is full, none of it yet.
+fn run_in_row(b: &[u8], c: Cursor) -> Taken
+    requires { ⌜ (c .end ≤ length (now b)) × (c .end ≤ c .at → c .next < length (now b)) ⌝ }
+    ensures { λ r. ⌜ InRow (now (b .entry)) c (r .colour) (r .length) (r .repeat) (r .cursor) ⌝ }
+{
+    let at = c.at;
+    let next = c.next;
+    if c.end <= at {
+        return Taken {
+            colour: b[next],
+            length: 0,
+            repeat: 0,
+            cursor: c,
+        };
+    }
+    let colour = b[at];
+    let length = scan::first_other(b, at, c.end - at, colour);
+    let repeat = repeat_before(colour, c.before, c.owed);
+    let cursor = Cursor {
+        at: at + length,
+        end: c.end,
+        next,
+        owed: c.owed - repeat,
+        before: colour,
+    };
+    Taken {
+        colour,
+        length,
+        repeat,
+        cursor,
     }
 }
 
@@ -199,14 +173,19 @@ pub fn next_run(b: &[u8], w: usize, c: Cursor) -> Count
     requires { ⌜ Inside (now b) w c ⌝ }
     ensures { λ r. ⌜ Counted (now (b .entry)) w c r ⌝ }
 {
-    let n = next_pixel(b, w, c);
-    let Step::One(x, m, d) = n else {
-        return Count::Done;
-    };
-    let t = run_on(b, w, x, d);
-    let e = t.cursor;
+    if c.end <= c.at {
+        if b.len() <= c.next {
+            return Count::Done;
+        }
+    }
+    let t = run_in_row(b, c);
+    let d = t.cursor;
     let k = t.length;
-    Count::Run(k, m, e)
+    let m = t.repeat;
+    if d.at < d.end {
+        return Count::Run(k, m, d);
+    }
+    across(b, w, t.colour, k, m, d)
 }
 
 // The cursor before the first pixel, after an imaginary white one.

@@ -1,8 +1,8 @@
 use mathlib.Core.Path.{ap}
 use native.Mathlib.Omega.{arith}
 use lib.ListN.{length}
-use Rattle.format.proofs.PackedLaws.{length-one, length-two}
-use Rattle.emit.proofs.PutLaws.{number-one, number-two, number-large}
+use Rattle.format.proofs.PackedLaws.{length-one}
+use Rattle.emit.proofs.PutLaws.{number-one, first-within, two-long, number-two, number-large}
 use borrow.Author.Needs.{needs}
 use Rattle.emit.proofs.write_number.Statement.{statement}
 use Rattle.emit.proofs.write_number.Tie as tie
@@ -19,14 +19,14 @@ same-length c = search needs
 returns : tie.Need-returns
 returns c = number-one _ _ _ _ _ (omega arith) (c .before .before .put-nybble .ensures)
 
-limit-of-requires : tie.Need-limit-of-requires
-limit-of-requires c κs = search needs
-
 sub-k : tie.Need-sub-k
 sub-k c = search needs
 
 sub-k-2 : tie.Need-sub-k-2
 sub-k-2 c = search needs
+
+add-if2 : tie.Need-add-if2
+add-if2 c = search needs
 
 add-put-nybble : tie.Need-add-put-nybble
 add-put-nybble c = search needs
@@ -35,22 +35,25 @@ add-put-nybble-2 : tie.Need-add-put-nybble-2
 add-put-nybble-2 c = search needs
 
 put-nybble-requires-2 : tie.Need-put-nybble-requires-2
-put-nybble-requires-2 c κs = omega (arith, length-two (c .before .before .before .before .before .args .f) (c .before .before .before .before .before .args .n) (omega arith) (omega arith))
+put-nybble-requires-2 c κs = omega (arith, two-long (c .before .before .before .before .args .f) (c .before .before .before .before .args .n) (omega arith) (omega arith) (omega arith))
 
 add-put-nybble-3 : tie.Need-add-put-nybble-3
 add-put-nybble-3 c = search needs
 
 put-nybble-requires-3 : tie.Need-put-nybble-requires-3
-put-nybble-requires-3 c κs = omega (arith, length-two (c .before .before .before .before .before .before .before .before .before .args .f) (c .before .before .before .before .before .before .before .before .before .args .n) (omega arith) (omega arith))
+put-nybble-requires-3 c κs = omega (arith, two-long (c .before .before .before .before .before .before .before .before .args .f) (c .before .before .before .before .before .before .before .before .args .n) (omega arith) (omega arith) (omega arith))
 
 add-result-2 : tie.Need-add-result-2
-add-result-2 c = omega (arith, length-two (c .before .before .before .before .before .before .before .before .before .before .before .before .args .f) (c .before .before .before .before .before .before .before .before .before .before .before .before .args .n) (omega arith) (omega arith))
+add-result-2 c = omega (arith, two-long (c .before .before .before .before .before .before .before .before .before .before .before .args .f) (c .before .before .before .before .before .before .before .before .before .before .before .args .n) (omega arith) (omega arith) (omega arith))
 
 same-length-2 : tie.Need-same-length-2
 same-length-2 c = search needs
 
 returns-2 : tie.Need-returns-2
-returns-2 c = number-two _ _ _ _ _ _ (omega arith) (omega arith) (c .before .before .before .before .before .before .put-nybble2 .ensures) (c .before .before .put-nybble3 .ensures)
+returns-2 c = number-two _ _ _ _ _ _ (omega arith) (first-within _ _ (omega arith) (omega arith) (omega arith)) (c .before .before .before .before .before .before .put-nybble2 .ensures) (c .before .before .put-nybble3 .ensures)
+
+limit-of-requires : tie.Need-limit-of-requires
+limit-of-requires c κs = search needs
 
 sub-write-large : tie.Need-sub-write-large
 sub-write-large c = search needs
@@ -59,7 +62,7 @@ add-write-large : tie.Need-add-write-large
 add-write-large c = search needs
 
 write-large-requires : tie.Need-write-large-requires
-write-large-requires c κs = omega (arith, ap length (number-large (c .before .before .before .before .before .args .f) (c .before .before .before .before .before .args .n) _ (omega arith) (c .before .before .limit-of .ensures) (omega arith)))
+write-large-requires c κs = let a = c .before .before .before .before .before .args in omega (arith, ap length (number-large (a .f) (a .n) _ (omega arith) (omega arith) (omega arith) (c .before .limit-of .ensures)))
 
 same-length-3 : tie.Need-same-length-3
 same-length-3 c = search needs
@@ -67,7 +70,7 @@ same-length-3 c = search needs
 returns-3 : tie.Need-returns-3
 returns-3 c =
     let a = c .before .before .before .before .before .before .before .before .args in
-    rw (number-large (a .f) (a .n) _ (omega arith) (c .before .before .before .before .before .limit-of .ensures) (omega arith)) (c .before .before .write-large .ensures)
+    rw (number-large (a .f) (a .n) _ (omega arith) (omega arith) (omega arith) (c .before .before .before .before .limit-of .ensures)) (c .before .before .write-large .ensures)
 
 pub write-number-spec : {M : Type 1} → statement M
 write-number-spec =
@@ -77,9 +80,9 @@ write-number-spec =
     add-result
     same-length
     returns
-    limit-of-requires
     sub-k
     sub-k-2
+    add-if2
     add-put-nybble
     add-put-nybble-2
     put-nybble-requires-2
@@ -88,6 +91,7 @@ write-number-spec =
     add-result-2
     same-length-2
     returns-2
+    limit-of-requires
     sub-write-large
     add-write-large
     write-large-requires

@@ -10,7 +10,7 @@ write-bits-requires : tie.Need-write-bits-requires
 write-bits-requires c κs =
     let o = c .before .before .before .before in
     let n = bits-long (o .args .f) (o .args .w) (o .args .h) (o .args .b .now) (omega arith) in
-    (o .pre .4, o .pre .3, omega (arith, n, o .pre .5))
+    (o .pre .4, o .pre .3, omega (arith, n, o .pre .6))
 
 same-length : tie.Need-same-length
 same-length c = search needs
@@ -25,16 +25,16 @@ returns c =
 
 write-runs-requires : tie.Need-write-runs-requires
 write-runs-requires c κs =
-    let o = c .before .before .before .before in
+    let o = c .before .before .before .before .before .before in
     let e = raster-runs (o .args .f) (o .args .w) (o .args .h) (o .args .b .now) (λ e. omega arith) in
-    (some-wide _ _ (o .pre .1) (λ e. omega arith), o .pre .2, o .pre .3, omega arith, omega (arith, ap length e, o .pre .5))
+    (some-wide _ _ (o .pre .1) (λ e. omega arith), o .pre .2, o .pre .3, omega arith, o .pre .5, omega (arith, ap length e, o .pre .6))
 
 same-length-2 : tie.Need-same-length-2
 same-length-2 c = search needs
 
 returns-2 : tie.Need-returns-2
 returns-2 c =
-    let o = c .before .before .before .before .before .before .before in
+    let o = c .before .before .before .before .before .before .before .before .before in
     let e = raster-runs (o .args .f) (o .args .w) (o .args .h) (o .args .b .now) (λ e. omega arith) in
     let w = c .before .before .write-runs in
     (rw e (w .ensures .0), rw e (w .ensures .1))

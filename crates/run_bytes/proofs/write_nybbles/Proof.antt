@@ -1,47 +1,38 @@
-use Prim.Native.Nat.{_-_}
+use Prim.Native.Nat.{_+_, _-_}
+use native.Mathlib.Omega.{arith}
 use lib.ListN.{length}
 use borrow.Author.Needs.{needs}
-use Rattle.format.specs.Rasters.{rows}
-use Rattle.format.specs.Counts.{counts}
-use Rattle.run_bytes.proofs.WritingLaws.{Writing, writing-start, writing-asks, writing-less, writing-more, writing-end}
+use Rattle.part.proofs.KeptLaws.{kept-less}
+use Rattle.run_bytes.proofs.WritingLaws.{Writing, writing-start, writing-asks, writing-more, writing-end}
 use Rattle.run_bytes.proofs.write_nybbles.Statement.{statement}
 use Rattle.run_bytes.proofs.write_nybbles.Tie as tie
 
 abbrev Inv-loop : tie.InvT-loop
-Inv-loop b w h f buf₀ i to₀ c₀ buf to c = Writing b w f (counts (rows w h b)) buf₀ i buf to c
+Inv-loop b w f lengths₀ repeats₀ buf₀ i to₀ p₀ lengths repeats buf to p = Writing b w f buf₀ i buf to lengths repeats p
 
 abbrev μ-loop : tie.MeasureT-loop
-μ-loop b w h f buf₀ i to₀ c₀ buf to c = length b - c .at
-
-start-requires : tie.Need-start-requires Inv-loop μ-loop
-start-requires c κs = tt
+μ-loop b w f lengths₀ repeats₀ buf₀ i to₀ p₀ lengths repeats buf to p = length b - p .cursor .at + p .n
 
 loop-holds : tie.Need-loop-holds Inv-loop μ-loop
-loop-holds c = let o = c .before .before .before in writing-start _ _ _ _ _ _ _ (c .start .ensures) (o .pre .0) (o .pre .1) (o .pre .2) (o .pre .4)
+loop-holds c = let p = c .before .before .pre in writing-start (p .1) (p .2)
 
-next-run-requires : tie.Need-next-run-requires Inv-loop μ-loop
-next-run-requires c κs = c .loop .inv .inside
-
-enum-known-n : tie.Need-enum-known-n Inv-loop μ-loop
-enum-known-n c = search needs
-
-enum-told : tie.Need-enum-told Inv-loop μ-loop
-enum-told c = search needs
+write-part-requires : tie.Need-write-part-requires Inv-loop μ-loop
+write-part-requires c κs = writing-asks (c .before .before .before .loop .inv) (c .before .before .before .before .before .before .pre .0)
 
 same-length : tie.Need-same-length Inv-loop μ-loop
 same-length c = search needs
 
 returns : tie.Need-returns Inv-loop μ-loop
-returns c = writing-end (c .before .before .before .loop .inv) (rw (c .enum-told .given .1) at (c .before .before .next-run .ensures))
+returns c = writing-end (c .before .before .before .before .before .before .before .before .loop .inv) (c .before .before .before .before .write-part .ensures) (omega arith)
 
-write-run-requires : tie.Need-write-run-requires Inv-loop μ-loop
-write-run-requires c κs = writing-asks (c .before .before .before .before .before .loop .inv) (rw (c .before .before .n .given .1) at (c .before .before .before .before .next-run .ensures)) (c .before .before .before .before .before .before .before .before .before .pre .3)
+part-from-requires : tie.Need-part-from-requires Inv-loop μ-loop
+part-from-requires c κs = let g = c .before .before .before .before .before .before .before .before .before .before .loop .inv .part .walked in (g .inside, g .runs .room)
 
 loop-less : tie.Need-loop-less Inv-loop μ-loop
-loop-less c = writing-less (rw (c .before .before .before .before .before .n .given .1) at (c .before .before .before .before .before .before .before .next-run .ensures))
+loop-less c = kept-less (omega arith) (c .part-from .ensures)
 
 loop-again : tie.Need-loop-again Inv-loop μ-loop
-loop-again c = writing-more (c .before .before .before .before .before .before .before .before .loop .inv) (rw (c .before .before .before .before .before .n .given .1) at (c .before .before .before .before .before .before .before .next-run .ensures)) (c .before .before .write-run .ensures)
+loop-again c = writing-more (c .before .before .before .before .before .before .before .before .before .before .before .loop .inv) (c .before .before .before .before .before .before .before .write-part .ensures) (c .part-from .ensures)
 
 pub write-nybbles-spec : {M : Type 1} → statement M
 write-nybbles-spec =
@@ -49,13 +40,10 @@ write-nybbles-spec =
     (tie.spec
     Inv-loop
     μ-loop
-    start-requires
     loop-holds
-    next-run-requires
-    enum-known-n
-    enum-told
+    write-part-requires
     same-length
     returns
-    write-run-requires
+    part-from-requires
     loop-less
     loop-again)

@@ -1,44 +1,34 @@
-use Prim.Native.Nat.{_-_}
+use Prim.Native.Nat.{_+_, _-_}
+use native.Mathlib.Omega.{arith}
 use lib.ListN.{length}
-use borrow.Author.Needs.{needs}
-use Rattle.format.specs.Rasters.{rows}
-use Rattle.format.specs.Counts.{counts}
-use Rattle.size.proofs.TotalLaws.{Summed, sum-start, sum-asks, sum-less, sum-more, sum-end}
+use Rattle.part.proofs.KeptLaws.{kept-less}
+use Rattle.size.proofs.TotalLaws.{Summed, sum-start, sum-asks, sum-more, sum-end}
 use Rattle.size.proofs.sizes.Statement.{statement}
 use Rattle.size.proofs.sizes.Tie as tie
 
 abbrev Inv-loop : tie.InvT-loop
-Inv-loop b w h t₀ c₀ t c = Summed b w (counts (rows w h b)) t c
+Inv-loop b w lengths₀ repeats₀ t₀ p₀ lengths repeats t p = Summed b w p₀ t lengths repeats p
 
 abbrev μ-loop : tie.MeasureT-loop
-μ-loop b w h t₀ c₀ t c = length b - c .at
-
-start-requires : tie.Need-start-requires Inv-loop μ-loop
-start-requires c κs = tt
+μ-loop b w lengths₀ repeats₀ t₀ p₀ lengths repeats t p = length b - p .cursor .at + p .n
 
 loop-holds : tie.Need-loop-holds Inv-loop μ-loop
-loop-holds c = let p = c .before .before .pre in sum-start _ _ _ _ (c .start .ensures) (p .0) (p .1) (p .2)
+loop-holds c = sum-start (c .before .pre)
 
-next-run-requires : tie.Need-next-run-requires Inv-loop μ-loop
-next-run-requires c κs = c .loop .inv .inside
-
-enum-known-n : tie.Need-enum-known-n Inv-loop μ-loop
-enum-known-n c = search needs
-
-enum-told : tie.Need-enum-told Inv-loop μ-loop
-enum-told c = search needs
+add-part-requires : tie.Need-add-part-requires Inv-loop μ-loop
+add-part-requires c κs = sum-asks (c .before .before .before .loop .inv)
 
 returns : tie.Need-returns Inv-loop μ-loop
-returns c = sum-end (c .before .before .before .loop .inv) (rw (c .enum-told .given .1) at (c .before .before .next-run .ensures))
+returns c = sum-end (c .before .before .before .before .before .before .loop .inv) (c .before .before .add-part .ensures) (omega arith)
 
-with-run-requires : tie.Need-with-run-requires Inv-loop μ-loop
-with-run-requires c κs = sum-asks (c .before .before .before .before .loop .inv) (rw (c .before .n .given .1) at (c .before .before .before .next-run .ensures))
+part-from-requires : tie.Need-part-from-requires Inv-loop μ-loop
+part-from-requires c κs = let g = c .before .before .before .before .before .before .before .before .loop .inv .part .walked in (g .inside, g .runs .room)
 
 loop-less : tie.Need-loop-less Inv-loop μ-loop
-loop-less c = sum-less (rw (c .before .before .n .given .1) at (c .before .before .before .before .next-run .ensures))
+loop-less c = kept-less (omega arith) (c .part-from .ensures)
 
 loop-again : tie.Need-loop-again Inv-loop μ-loop
-loop-again c = sum-more (c .before .before .before .before .before .loop .inv) (rw (c .before .before .n .given .1) at (c .before .before .before .before .next-run .ensures)) (c .with-run .ensures) (search needs)
+loop-again c = sum-more (c .before .before .before .before .before .before .before .before .before .loop .inv) (c .before .before .before .before .before .add-part .ensures) (omega arith) (c .part-from .ensures)
 
 pub sizes-spec : {M : Type 1} → statement M
 sizes-spec =
@@ -46,12 +36,9 @@ sizes-spec =
     (tie.spec
     Inv-loop
     μ-loop
-    start-requires
     loop-holds
-    next-run-requires
-    enum-known-n
-    enum-told
+    add-part-requires
     returns
-    with-run-requires
+    part-from-requires
     loop-less
     loop-again)

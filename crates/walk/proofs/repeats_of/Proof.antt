@@ -1,8 +1,9 @@
-use Rattle.walk.proofs.PixelLaws.{off, on}
 use Prim.Native.Nat.{_-_}
-use lib.ListN.{length}
+use mathlib.Core.Logic.{⊎-elim}
 use native.Mathlib.Omega.{arith}
-use Rattle.walk.proofs.RowLaws.{Equal, row-whole, equal-start, equal-row, equal-room, equal-more, equal-stop, equal-end, plain-row}
+use lib.ListN.{length}
+use Rattle.walk.proofs.RowLaws.{Equal, row-whole, equal-start, equal-room, equal-more, equal-stop, equal-end, equal-plain}
+use Rattle.walk.proofs.PixelLaws.{off, on}
 use Rattle.walk.proofs.repeats_of.Statement.{statement}
 use Rattle.walk.proofs.repeats_of.Tie as tie
 
@@ -15,32 +16,32 @@ abbrev μ-loop : tie.MeasureT-loop
 add-next : tie.Need-add-next Inv-loop μ-loop
 add-next c = omega (arith, row-whole (c .before .pre))
 
-mixed-row-requires : tie.Need-mixed-row-requires Inv-loop μ-loop
-mixed-row-requires c κs = row-whole (c .before .pre)
-
-returns : tie.Need-returns Inv-loop μ-loop
-returns c = plain-row (c .before .before .before .pre) (off (c .before .mixed-row .ensures) (c .if1 .taken))
-
 loop-holds : tie.Need-loop-holds Inv-loop μ-loop
-loop-holds c = equal-start (c .before .before .before .pre) (on (c .before .mixed-row .ensures) (c .if1 .left))
+loop-holds c = equal-start (c .before .pre)
 
 same-rows-requires : tie.Need-same-rows-requires Inv-loop μ-loop
-same-rows-requires c κs = (equal-row (c .before .loop .inv), equal-room (c .before .loop .inv) (omega arith))
+same-rows-requires c κs = equal-room (c .before .loop .inv) (omega arith)
+
+returns : tie.Need-returns Inv-loop μ-loop
+returns c = equal-stop (c .before .before .before .loop .inv) (omega arith) (off (c .before .same-rows .ensures) (c .if1 .taken))
+
+mixed-row-requires : tie.Need-mixed-row-requires Inv-loop μ-loop
+mixed-row-requires c κs = (c .before .before .before .before .before .before .pre .wide, row-whole (c .before .before .before .before .before .before .pre))
 
 returns-2 : tie.Need-returns-2 Inv-loop μ-loop
-returns-2 c = equal-stop (c .before .before .before .loop .inv) (omega arith) (off (c .before .same-rows .ensures) (c .if2 .taken))
+returns-2 c = equal-plain (c .before .before .before .before .before .before .loop .inv) (off (c .before .mixed-row .ensures) (c .if3 .taken))
 
 add-next-2 : tie.Need-add-next-2 Inv-loop μ-loop
-add-next-2 c = omega (arith, equal-room (c .before .before .before .loop .inv) (omega arith))
+add-next-2 c = omega (arith, equal-room (c .before .before .before .before .loop .inv) (omega arith))
 
 add-n : tie.Need-add-n Inv-loop μ-loop
-add-n c = omega (arith, c .before .before .before .loop .inv .after, c .before .before .before .loop .inv .whole)
+add-n c = omega (arith, c .before .before .before .before .loop .inv .after, c .before .before .before .before .loop .inv .whole)
 
 loop-less : tie.Need-loop-less Inv-loop μ-loop
-loop-less c = omega (arith, equal-room (c .before .before .before .loop .inv) (omega arith), c .before .before .before .loop .inv .wide)
+loop-less c = omega (arith, equal-room (c .before .before .before .before .loop .inv) (omega arith), c .before .before .before .before .loop .inv .wide)
 
 loop-again : tie.Need-loop-again Inv-loop μ-loop
-loop-again c = equal-more (c .before .before .before .loop .inv) (omega arith) (on (c .before .same-rows .ensures) (c .if2 .left))
+loop-again c = equal-more (c .before .before .before .before .loop .inv) (omega arith) (on (c .before .before .same-rows .ensures) (c .before .if1 .left)) (⊎-elim (λ v. on (v .1 .ensures) (v .2 .left)) (λ v. c .before .before .before .before .loop .inv .mix (omega (arith, v .left))) (c .if2 .came))
 
 returns-3 : tie.Need-returns-3 Inv-loop μ-loop
 returns-3 c = equal-end (c .before .loop .inv) (omega arith)
@@ -52,10 +53,10 @@ repeats-of-spec =
     Inv-loop
     μ-loop
     add-next
-    mixed-row-requires
-    returns
     loop-holds
     same-rows-requires
+    returns
+    mixed-row-requires
     returns-2
     add-next-2
     add-n
