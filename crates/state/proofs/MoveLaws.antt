@@ -2,7 +2,7 @@
 use Prim.Native.Nat.{ℕ, zero, suc, _+_, _-_, _*_, _/_, _%_, _≤_, _<_}
 use mathlib.Core.Path.{_≡_, refl, sym, ap, _∙_}
 use mathlib.Core.Bool.{Bool}
-use native.Mathlib.Nat.{mul-le-mul-right, div-mul-le-self, div-eq-of-lt, div-add-mod', mod-lt}
+use native.Mathlib.Nat.{mul-le-mul-right, div-mul-le-self, div-eq-of-lt, div-lt-iff-lt-mul, div-add-mod', mod-lt}
 use native.Mathlib.Omega.{arith}
 use borrow.Author.Tests.{le-leb, lt-leb}
 use Rattle.format.specs.Refusals.{tooMany}
@@ -38,6 +38,14 @@ some-end w n p l =
     let e : n / w * w + n % w ≡ n = div-add-mod' n w in
     let m : n % w < w = mod-lt n p in
     absurd (omega (arith, ap (λ (q : ℕ). q * w) z)))
+
+-- A column past the last and not past the next fills one.
+pub one-end : (w n : ℕ) (s : State) (black : Bool) → 1 ≤ w → w ≤ s .column + n → s .column + n - w < w
+    → coloured black (rowEnds w 1 (advanced n s)) ≡ coloured black (rowEnds w ((s .column + n) / w) (advanced n s))
+one-end w n s black p l u =
+    let c = s .column + n in
+    let q : c / w ≡ 1 = omega (arith, some-end w c p l, div-lt-iff-lt-mul {x = c} {y = 2} p .1 (omega arith)) in
+    rw q refl
 
 -- ---- a run
 

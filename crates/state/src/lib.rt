@@ -46,7 +46,7 @@ impl State {
         }
     }
 
-    // After a run of n pixels that fits.
+    // After a run of n pixels that fits. Most end no row or one, and need no division.
     pub fn past(self, w: usize, n: usize) -> State
         requires { ⌜ (1 ≤ w) × (self .column + n ≤ 65536) × (self .row + self .repeat + (self .column + n) / w ≤ 65536) ⌝ }
         ensures { λ r. ⌜ r ≡ coloured (not (self .black)) (rowEnds w ((self .column + n) / w) (advanced n (plain self))) ⌝ }
@@ -60,6 +60,9 @@ impl State {
         };
         if column < w {
             return on;
+        }
+        if column - w < w {
+            return on.row_end(w, 1);
         }
         on.row_end(w, column / w)
     }
