@@ -1,5 +1,6 @@
 // The checker run on outside cases: standard input holds fonts, each behind its length in four bytes; a line is printed for each,
-// `ok CHARS` or `refuse NUMBER PLACE`.
+// `ok CHARS` or `refuse NUMBER PLACE`. A font that is cut off gets the line `bad case`.
+use cases::Block;
 use font::Checked;
 use libc::STDIN_FILENO;
 use libc::STDOUT_FILENO;
@@ -22,15 +23,11 @@ fn print_line(checked: Checked) {
 fn check_each(cases: &[u8]) {
     let mut at: usize = 0;
     while at < cases.len() {
-        if cases.len() - at < 4 {
+        let block = cases::block_at(cases, at, 4);
+        let Block::Whole(begin, end) = block else {
+            lines::print_bad();
             return;
-        }
-        let begin = at + 4;
-        let n = fields::number_at(cases, at, 4) as usize;
-        if cases.len() - begin < n {
-            return;
-        }
-        let end = begin + n;
+        };
         print_line(font::check(&cases[begin..end]));
         at = end;
     }

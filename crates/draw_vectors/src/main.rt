@@ -1,6 +1,10 @@
 // The drawer run on outside cases: standard input holds fonts, each behind the first and the last code to draw, the room and its length
 // in four bytes each; a line is printed for each code, `ok CODE W H TFM DX DY HOFF VOFF MARK` or `refuse NUMBER PLACE`, and at its end
-// `touched` if a byte was written that must stay.
+// `touched` if a byte was written that must stay. A case that is cut off, or that has more room than the program's buffer, gets the line
+// `bad case`.
+ghost use Prim.Native.Nat.{_≤_};
+ghost use lib.ListN.{length};
+use cases::Block;
 use glyph::Drawn;
 use libc::STDIN_FILENO;
 use libc::STDOUT_FILENO;
@@ -64,25 +68,26 @@ fn draw_codes(font: &[u8], first: usize, last: usize, room: usize) {
     draw_one(font, last, room);
 }
 
+// The font from begin to end; the codes to draw and the room stand before it.
+fn draw_case(cases: &[u8], begin: usize, end: usize)
+    requires { ⌜ (16 ≤ begin) × (begin ≤ end) × (end ≤ length (now cases)) ⌝ }
+{
+    let first = fields::number_at(cases, begin - 16, 4) as usize;
+    let last = fields::number_at(cases, begin - 12, 4) as usize;
+    let room = fields::number_at(cases, begin - 8, 4) as usize;
+    draw_codes(&cases[begin..end], first, last, room);
+}
+
 // Each case.
 fn draw_each(cases: &[u8]) {
     let mut at: usize = 0;
     while at < cases.len() {
-        if cases.len() - at < 16 {
+        let block = cases::block_at(cases, at, 16);
+        let Block::Whole(begin, end) = block else {
             lines::print_bad();
             return;
-        }
-        let first = fields::number_at(cases, at, 4) as usize;
-        let last = fields::number_at(cases, at + 4, 4) as usize;
-        let room = fields::number_at(cases, at + 8, 4) as usize;
-        let n = fields::number_at(cases, at + 12, 4) as usize;
-        let begin = at + 16;
-        if cases.len() - begin < n {
-            lines::print_bad();
-            return;
-        }
-        let end = begin + n;
-        draw_codes(&cases[begin..end], first, last, room);
+        };
+        draw_case(cases, begin, end);
         at = end;
     }
 }

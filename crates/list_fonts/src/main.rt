@@ -1,20 +1,17 @@
 // The listing run on real fonts: standard input holds fonts, each behind its length in four bytes; the listing of each is printed, and then
-// that of a file that is one byte too long, whose first 65,536 bytes are a font.
+// that of a file that is one byte too long, whose first 65,536 bytes are a font. A font that is cut off gets the line `bad case`.
+use cases::Block;
 use libc::STDIN_FILENO;
 
 // Each font of the cases.
 fn list_each(cases: &[u8]) {
     let mut at: usize = 0;
     while at < cases.len() {
-        if cases.len() - at < 4 {
+        let block = cases::block_at(cases, at, 4);
+        let Block::Whole(begin, end) = block else {
+            lines::print_bad();
             return;
-        }
-        let begin = at + 4;
-        let n = fields::number_at(cases, at, 4) as usize;
-        if cases.len() - begin < n {
-            return;
-        }
-        let end = begin + n;
+        };
         list_lines::print_listing(&cases[begin..end]);
         at = end;
     }

@@ -5,12 +5,19 @@
 // must stay. A case that is cut off, or that has more room than the program's buffer, gets the line `bad case`.
 ghost use Prim.Native.Nat.{_+_, _≤_};
 ghost use lib.ListN.{length};
+use cases::Block;
 use escapement::Scaled;
 use glyph::Drawn;
 use libc::STDIN_FILENO;
 use libc::STDOUT_FILENO;
 use measures::Measures;
 use pack::Packed;
+
+// The bytes before a bitmap: the kind, eight measures of eight bytes, the room and the length.
+const BITMAP_HEAD: usize = 73;
+
+// The bytes before a font: the kind and the length.
+const FONT_HEAD: usize = 5;
 
 // The line of an answer.
 fn print_line(packed: Packed, bytes: &[u8]) {
@@ -101,56 +108,37 @@ fn repack_each(font: &[u8]) {
     }
 }
 
-// The case of a bitmap at `at`; it answers the place behind, or the end.
-fn bitmap_case(cases: &[u8], at: usize) -> usize
-    requires { ⌜ at ≤ length (now cases) ⌝ }
-    ensures { λ r. ⌜ at ≤ r ⌝ }
+// The bitmap from begin to end, packed; its measures and the room stand before it.
+fn bitmap_case(cases: &[u8], begin: usize, end: usize)
+    requires { ⌜ (72 ≤ begin) × (begin ≤ end) × (end ≤ length (now cases)) ⌝ }
 {
-    if cases.len() - at < 72 {
-        lines::print_bad();
-        return cases.len();
-    }
-    let room = fields::number_at(cases, at + 64, 4) as usize;
-    let n = fields::number_at(cases, at + 68, 4) as usize;
-    let begin = at + 72;
-    if cases.len() - begin < n {
-        lines::print_bad();
-        return cases.len();
-    }
-    let end = begin + n;
-    pack_one(&cases[begin..end], measures_from(cases, at), room);
-    end
+    let room = fields::number_at(cases, begin - 8, 4) as usize;
+    pack_one(&cases[begin..end], measures_from(cases, begin - 72), room);
 }
 
-// The case of a font at `at`; it answers the place behind, or the end.
-fn font_case(cases: &[u8], at: usize) -> usize
-    requires { ⌜ at ≤ length (now cases) ⌝ }
-    ensures { λ r. ⌜ at ≤ r ⌝ }
+// How many bytes the head of a case has that begins with this byte.
+fn head_of(kind: u8) -> usize
+    ensures { λ r. ⌜ 4 ≤ r ⌝ }
 {
-    if cases.len() - at < 4 {
-        lines::print_bad();
-        return cases.len();
-    }
-    let n = fields::number_at(cases, at, 4) as usize;
-    let begin = at + 4;
-    if cases.len() - begin < n {
-        lines::print_bad();
-        return cases.len();
-    }
-    let end = begin + n;
-    repack_each(&cases[begin..end]);
-    end
+    if kind == 1 { BITMAP_HEAD } else { FONT_HEAD }
 }
 
 // Each case.
 fn pack_each(cases: &[u8]) {
     let mut at: usize = 0;
     while at < cases.len() {
-        if cases[at] == 1 {
-            at = bitmap_case(cases, at + 1);
+        let head = head_of(cases[at]);
+        let block = cases::block_at(cases, at, head);
+        let Block::Whole(begin, end) = block else {
+            lines::print_bad();
+            return;
+        };
+        if head == BITMAP_HEAD {
+            bitmap_case(cases, begin, end);
         } else {
-            at = font_case(cases, at + 1);
+            repack_each(&cases[begin..end]);
         }
+        at = end;
     }
 }
 

@@ -1,6 +1,7 @@
 use Prim.Native.Nat.{_-_}
 use lib.ListN.{length}
 use borrow.Author.Needs.{needs}
+use Rattle.cases.proofs.BlockLaws.{whole-stands}
 use Rattle.check_vectors.proofs.check_each.Statement.{statement}
 use Rattle.check_vectors.proofs.check_each.Tie as tie
 
@@ -13,35 +14,29 @@ abbrev μ-loop : tie.MeasureT-loop
 loop-holds : tie.Need-loop-holds Inv-loop μ-loop
 loop-holds c = tt
 
-sub-if1 : tie.Need-sub-if1 Inv-loop μ-loop
-sub-if1 c = search needs
+block-at-requires : tie.Need-block-at-requires Inv-loop μ-loop
+block-at-requires c κs = search needs
+
+enum-known-block : tie.Need-enum-known-block Inv-loop μ-loop
+enum-known-block c = search needs
+
+enum-told : tie.Need-enum-told Inv-loop μ-loop
+enum-told c = search needs
+
+print-bad-requires : tie.Need-print-bad-requires Inv-loop μ-loop
+print-bad-requires c κs = search needs
 
 returns : tie.Need-returns Inv-loop μ-loop
 returns c = tt
 
-add-begin : tie.Need-add-begin Inv-loop μ-loop
-add-begin c = search needs
-
-number-at-requires : tie.Need-number-at-requires Inv-loop μ-loop
-number-at-requires c κs = search needs
-
-sub-if2 : tie.Need-sub-if2 Inv-loop μ-loop
-sub-if2 c = search needs
-
-returns-2 : tie.Need-returns-2 Inv-loop μ-loop
-returns-2 c = tt
-
-add-end : tie.Need-add-end Inv-loop μ-loop
-add-end c = search needs
-
 sub-check : tie.Need-sub-check Inv-loop μ-loop
-sub-check c = search needs
+sub-check c = search (needs, whole-stands (c .before .before .before .block-at .ensures) (c .before .block .given .1))
 
 part-check-start : tie.Need-part-check-start Inv-loop μ-loop
-part-check-start c = search needs
+part-check-start c = search (needs, whole-stands (c .before .before .before .block-at .ensures) (c .before .block .given .1))
 
 part-check-end : tie.Need-part-check-end Inv-loop μ-loop
-part-check-end c = search needs
+part-check-end c = search (needs, whole-stands (c .before .before .before .block-at .ensures) (c .before .block .given .1))
 
 check-requires : tie.Need-check-requires Inv-loop μ-loop
 check-requires c κs = search needs
@@ -50,13 +45,13 @@ print-line-requires : tie.Need-print-line-requires Inv-loop μ-loop
 print-line-requires c κs = search needs
 
 loop-less : tie.Need-loop-less Inv-loop μ-loop
-loop-less c = search needs
+loop-less c = search (needs, whole-stands (c .before .before .before .before .before .before .block-at .ensures) (c .before .before .before .before .block .given .1))
 
 loop-again : tie.Need-loop-again Inv-loop μ-loop
 loop-again c = tt
 
-returns-3 : tie.Need-returns-3 Inv-loop μ-loop
-returns-3 c = tt
+returns-2 : tie.Need-returns-2 Inv-loop μ-loop
+returns-2 c = tt
 
 pub check-each-spec : {M : Type 1} → statement M
 check-each-spec =
@@ -65,13 +60,11 @@ check-each-spec =
     Inv-loop
     μ-loop
     loop-holds
-    sub-if1
+    block-at-requires
+    enum-known-block
+    enum-told
+    print-bad-requires
     returns
-    add-begin
-    number-at-requires
-    sub-if2
-    returns-2
-    add-end
     sub-check
     part-check-start
     part-check-end
@@ -79,4 +72,4 @@ check-each-spec =
     print-line-requires
     loop-less
     loop-again
-    returns-3)
+    returns-2)

@@ -1,6 +1,7 @@
 use Prim.Native.Nat.{_-_}
 use lib.ListN.{length}
 use borrow.Author.Needs.{needs}
+use Rattle.cases.proofs.BlockLaws.{whole-stands}
 use Rattle.list_fonts.proofs.list_each.Statement.{statement}
 use Rattle.list_fonts.proofs.list_each.Tie as tie
 
@@ -13,47 +14,41 @@ abbrev μ-loop : tie.MeasureT-loop
 loop-holds : tie.Need-loop-holds Inv-loop μ-loop
 loop-holds c = tt
 
-sub-if1 : tie.Need-sub-if1 Inv-loop μ-loop
-sub-if1 c = search needs
+block-at-requires : tie.Need-block-at-requires Inv-loop μ-loop
+block-at-requires c κs = search needs
+
+enum-known-block : tie.Need-enum-known-block Inv-loop μ-loop
+enum-known-block c = search needs
+
+enum-told : tie.Need-enum-told Inv-loop μ-loop
+enum-told c = search needs
+
+print-bad-requires : tie.Need-print-bad-requires Inv-loop μ-loop
+print-bad-requires c κs = search needs
 
 returns : tie.Need-returns Inv-loop μ-loop
 returns c = tt
 
-add-begin : tie.Need-add-begin Inv-loop μ-loop
-add-begin c = search needs
-
-number-at-requires : tie.Need-number-at-requires Inv-loop μ-loop
-number-at-requires c κs = search needs
-
-sub-if2 : tie.Need-sub-if2 Inv-loop μ-loop
-sub-if2 c = search needs
-
-returns-2 : tie.Need-returns-2 Inv-loop μ-loop
-returns-2 c = tt
-
-add-end : tie.Need-add-end Inv-loop μ-loop
-add-end c = search needs
-
 sub-print-listing : tie.Need-sub-print-listing Inv-loop μ-loop
-sub-print-listing c = search needs
+sub-print-listing c = search (needs, whole-stands (c .before .before .before .block-at .ensures) (c .before .block .given .1))
 
 part-print-listing-start : tie.Need-part-print-listing-start Inv-loop μ-loop
-part-print-listing-start c = search needs
+part-print-listing-start c = search (needs, whole-stands (c .before .before .before .block-at .ensures) (c .before .block .given .1))
 
 part-print-listing-end : tie.Need-part-print-listing-end Inv-loop μ-loop
-part-print-listing-end c = search needs
+part-print-listing-end c = search (needs, whole-stands (c .before .before .before .block-at .ensures) (c .before .block .given .1))
 
 print-listing-requires : tie.Need-print-listing-requires Inv-loop μ-loop
 print-listing-requires c κs = search needs
 
 loop-less : tie.Need-loop-less Inv-loop μ-loop
-loop-less c = search needs
+loop-less c = search (needs, whole-stands (c .before .before .before .before .before .block-at .ensures) (c .before .before .before .block .given .1))
 
 loop-again : tie.Need-loop-again Inv-loop μ-loop
 loop-again c = tt
 
-returns-3 : tie.Need-returns-3 Inv-loop μ-loop
-returns-3 c = tt
+returns-2 : tie.Need-returns-2 Inv-loop μ-loop
+returns-2 c = tt
 
 pub list-each-spec : {M : Type 1} → statement M
 list-each-spec =
@@ -62,17 +57,15 @@ list-each-spec =
     Inv-loop
     μ-loop
     loop-holds
-    sub-if1
+    block-at-requires
+    enum-known-block
+    enum-told
+    print-bad-requires
     returns
-    add-begin
-    number-at-requires
-    sub-if2
-    returns-2
-    add-end
     sub-print-listing
     part-print-listing-start
     part-print-listing-end
     print-listing-requires
     loop-less
     loop-again
-    returns-3)
+    returns-2)

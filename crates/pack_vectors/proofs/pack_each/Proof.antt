@@ -1,6 +1,7 @@
 use Prim.Native.Nat.{_-_}
 use lib.ListN.{length}
 use borrow.Author.Needs.{needs}
+use Rattle.cases.proofs.BlockLaws.{whole-stands}
 use Rattle.pack_vectors.proofs.pack_each.Statement.{statement}
 use Rattle.pack_vectors.proofs.pack_each.Tie as tie
 
@@ -13,35 +14,56 @@ abbrev μ-loop : tie.MeasureT-loop
 loop-holds : tie.Need-loop-holds Inv-loop μ-loop
 loop-holds c = tt
 
-shared-slice-read-if1 : tie.Need-shared-slice-read-if1 Inv-loop μ-loop
-shared-slice-read-if1 c = search needs
+shared-slice-read-head-of : tie.Need-shared-slice-read-head-of Inv-loop μ-loop
+shared-slice-read-head-of c = search needs
 
-add-bitmap-case : tie.Need-add-bitmap-case Inv-loop μ-loop
-add-bitmap-case c = search needs
+head-of-requires : tie.Need-head-of-requires Inv-loop μ-loop
+head-of-requires c κs = search needs
+
+block-at-requires : tie.Need-block-at-requires Inv-loop μ-loop
+block-at-requires c κs = search needs
+
+enum-known-block : tie.Need-enum-known-block Inv-loop μ-loop
+enum-known-block c = search needs
+
+enum-told : tie.Need-enum-told Inv-loop μ-loop
+enum-told c = search needs
+
+print-bad-requires : tie.Need-print-bad-requires Inv-loop μ-loop
+print-bad-requires c κs = search needs
+
+returns : tie.Need-returns Inv-loop μ-loop
+returns c = tt
 
 bitmap-case-requires : tie.Need-bitmap-case-requires Inv-loop μ-loop
-bitmap-case-requires c κs = search needs
+bitmap-case-requires c κs = search (needs, whole-stands (c .before .before .before .before .block-at .ensures) (c .before .before .block .given .1))
+
+sub-repack-each : tie.Need-sub-repack-each Inv-loop μ-loop
+sub-repack-each c = search (needs, whole-stands (c .before .before .before .before .block-at .ensures) (c .before .before .block .given .1))
+
+part-repack-each-start : tie.Need-part-repack-each-start Inv-loop μ-loop
+part-repack-each-start c = search (needs, whole-stands (c .before .before .before .before .block-at .ensures) (c .before .before .block .given .1))
+
+part-repack-each-end : tie.Need-part-repack-each-end Inv-loop μ-loop
+part-repack-each-end c = search (needs, whole-stands (c .before .before .before .before .block-at .ensures) (c .before .before .block .given .1))
+
+repack-each-requires : tie.Need-repack-each-requires Inv-loop μ-loop
+repack-each-requires c κs = search needs
 
 loop-less : tie.Need-loop-less Inv-loop μ-loop
-loop-less c = search needs
+loop-less c = search (needs, whole-stands (c .before .before .before .before .before .block-at .ensures) (c .before .before .before .block .given .1))
 
 loop-again : tie.Need-loop-again Inv-loop μ-loop
 loop-again c = tt
 
-add-font-case : tie.Need-add-font-case Inv-loop μ-loop
-add-font-case c = search needs
-
-font-case-requires : tie.Need-font-case-requires Inv-loop μ-loop
-font-case-requires c κs = search needs
-
 loop-less-2 : tie.Need-loop-less-2 Inv-loop μ-loop
-loop-less-2 c = search needs
+loop-less-2 c = search (needs, whole-stands (c .before .before .before .before .before .before .block-at .ensures) (c .before .before .before .before .block .given .1))
 
 loop-again-2 : tie.Need-loop-again-2 Inv-loop μ-loop
 loop-again-2 c = tt
 
-returns : tie.Need-returns Inv-loop μ-loop
-returns c = tt
+returns-2 : tie.Need-returns-2 Inv-loop μ-loop
+returns-2 c = tt
 
 pub pack-each-spec : {M : Type 1} → statement M
 pack-each-spec =
@@ -50,13 +72,20 @@ pack-each-spec =
     Inv-loop
     μ-loop
     loop-holds
-    shared-slice-read-if1
-    add-bitmap-case
+    shared-slice-read-head-of
+    head-of-requires
+    block-at-requires
+    enum-known-block
+    enum-told
+    print-bad-requires
+    returns
     bitmap-case-requires
+    sub-repack-each
+    part-repack-each-start
+    part-repack-each-end
+    repack-each-requires
     loop-less
     loop-again
-    add-font-case
-    font-case-requires
     loop-less-2
     loop-again-2
-    returns)
+    returns-2)
