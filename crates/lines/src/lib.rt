@@ -1,6 +1,7 @@
 // What the programs print: signed numbers, refusals, and the mark that stands for many bytes; and the buffer that they lend.
 ghost use mathlib.Core.Path.{_≡_};
 ghost use lib.ListN.{length};
+ghost use Rattle.lines.specs.Marks.{marked, areaOf};
 use libc::STDOUT_FILENO;
 use refusals::Refusal;
 
@@ -29,7 +30,9 @@ pub fn print_refusal(x: Refusal, place: usize) {
 }
 
 // The mark over bytes: begin with 1, and for each byte b make it (mark * 257 + b) mod 65,521.
-pub fn mark_of(bytes: &[u8]) -> usize {
+pub fn mark_of(bytes: &[u8]) -> usize
+    ensures { λ r. ⌜ r ≡ marked (now (bytes .entry)) ⌝ }
+{
     let mut mark: usize = 1;
     let mut i: usize = 0;
     while i < bytes.len() {
@@ -69,7 +72,9 @@ pub fn print_marked(bytes: &[u8], n: usize) {
 }
 
 // The pixels of w by h, as far as a buffer holds them.
-pub fn area(w: u64, h: u64) -> usize {
+pub fn area(w: u64, h: u64) -> usize
+    ensures { λ r. ⌜ r ≡ areaOf w h ⌝ }
+{
     if 65536 < w {
         return 0;
     }
