@@ -53,6 +53,10 @@ pub fn other_at(s: &[u8], at: usize, f: usize, repeat: usize) -> Item
     if x == 15 {
         return Item::Repeat(1, at + 1);
     }
+    let short = packed::short_at(s, at + 1, f);
+    if short.n != 0 {
+        return Item::Repeat(short.n, short.next);
+    }
     as_repeat(packed::read_number(s, at + 1, f))
 }
 

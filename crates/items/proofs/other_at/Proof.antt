@@ -1,4 +1,4 @@
-use mathlib.Core.Path.{ap, _∙_}
+use mathlib.Core.Path.{sym, ap, _∙_}
 use native.Mathlib.Omega.{arith}
 use Rattle.items.specs.Items.{asRun, asRepeat}
 use Rattle.items.proofs.ItemLaws.{item-past, item-run, item-second, item-fifteen, item-fourteen}
@@ -31,13 +31,25 @@ returns-3 c =
     let n = c .before .before in
     item-second _ _ _ _ (n .nybble .result) (n .nybble .ensures .is) (omega arith) (omega arith) (omega arith)
 
-add-t12 : tie.Need-add-t12
-add-t12 c = search needs
+add-t13 : tie.Need-add-t13
+add-t13 c = search needs
 
 returns-4 : tie.Need-returns-4
 returns-4 c =
     let n = c .before .before .before in
     item-fifteen _ _ _ _ (n .nybble .result) (n .nybble .ensures .is) (omega arith) (omega arith) (omega arith)
+
+add-short-at : tie.Need-add-short-at
+add-short-at c = search needs
+
+short-at-requires : tie.Need-short-at-requires
+short-at-requires c κs = search needs
+
+returns-5 : tie.Need-returns-5
+returns-5 c =
+    let n = c .before .before .before .before .before .before in
+    ap asRepeat (sym (c .before .before .short-at .ensures .some (c .if5 .taken)))
+    ∙ item-fourteen _ _ _ _ (n .nybble .result) (n .nybble .ensures .is) (omega arith) (omega arith) (λ e. omega arith) (omega arith)
 
 add-read-number : tie.Need-add-read-number
 add-read-number c = search needs
@@ -48,9 +60,9 @@ read-number-requires-2 c κs = search needs
 as-repeat-requires : tie.Need-as-repeat-requires
 as-repeat-requires c κs = search needs
 
-returns-5 : tie.Need-returns-5
-returns-5 c =
-    let n = c .before .before .before .before .before in
+returns-6 : tie.Need-returns-6
+returns-6 c =
+    let n = c .before .before .before .before .before .before .before .before in
     c .as-repeat .ensures ∙ ap asRepeat (c .before .read-number2 .ensures)
     ∙ item-fourteen _ _ _ _ (n .nybble .result) (n .nybble .ensures .is) (omega arith) (omega arith) (λ e. omega arith) (omega arith)
 
@@ -65,9 +77,12 @@ other-at-spec =
     as-run-requires
     returns-2
     returns-3
-    add-t12
+    add-t13
     returns-4
+    add-short-at
+    short-at-requires
+    returns-5
     add-read-number
     read-number-requires-2
     as-repeat-requires
-    returns-5)
+    returns-6)
