@@ -9,7 +9,7 @@ use lib.ListN.{length, drop, getD, set, length-set, length-append, drop-of-lengt
 use lib.Seq.{sets, sets-eq, length-sets, drop-cons}
 use Rattle.format.specs.Numbers.{bytes}
 use Rattle.format.proofs.FieldLaws.{length-bytes}
-use Rattle.head.specs.Head.{numbers, total, Fit}
+use Rattle.head.specs.Head.{numbers, total, Fit, narrowWidths}
 
 pow-pos : (k : ℕ) → 0 < 256 ^ k
 pow-pos k = one-le-pow k 256 (omega arith)
@@ -149,3 +149,27 @@ head-put l d flag ks vs h f g =
     let n : length (numbers ks vs) ≡ total ks = length-numbers ks vs f in
     let e : 0 + suc (length (numbers ks vs)) ≡ 1 + total ks = omega arith in
     (g .0, g .1 ∙ sets-eq (flag ∷ numbers ks vs) l 0 (omega arith) ∙ ap (λ (x : ℕ). (flag ∷ numbers ks vs) ++ drop x l) e)
+
+-- ---- the short form
+
+-- A number in no bytes, in one and in three.
+bytes-none : (n : ℕ) → bytes 0 n ≡ []
+unfolding bytes
+bytes-none n = refl
+
+byte-one : (n : ℕ) → bytes 1 n ≡ n ∷ []
+unfolding bytes
+byte-one n = ap (λ (x : ℕ). x ∷ []) (omega arith)
+
+bytes-three : (n : ℕ) → bytes 3 n ≡ n / 65536 ∷ n % 65536 / 256 ∷ n % 256 ∷ []
+unfolding bytes
+bytes-three n = let e : n % 65536 % 256 / 1 ≡ n % 256 = omega arith in ap (λ (x : ℕ). n / 65536 ∷ n % 65536 / 256 ∷ x ∷ []) e
+
+-- Its flag and fields, stored byte after byte, stand at the buffer's start.
+pub short-put : (l : List ℕ) (flag n code tfm dm w h x y : ℕ) → 11 ≤ length l
+    → sets l 0 (flag ∷ n ∷ code ∷ tfm / 65536 ∷ tfm % 65536 / 256 ∷ tfm % 256 ∷ dm ∷ w ∷ h ∷ x ∷ y ∷ [])
+    ≡ (flag ∷ numbers (narrowWidths 1) (n ∷ code ∷ tfm ∷ dm ∷ 0 ∷ w ∷ h ∷ x ∷ y ∷ [])) ++ drop 11 l
+unfolding numbers
+short-put l flag n code tfm dm w h x y r =
+    sets-eq (flag ∷ n ∷ code ∷ tfm / 65536 ∷ tfm % 65536 / 256 ∷ tfm % 256 ∷ dm ∷ w ∷ h ∷ x ∷ y ∷ []) l 0 r
+    ∙ sym (rw (bytes-none 0, bytes-three tfm, byte-one n, byte-one code, byte-one dm, byte-one w, byte-one h, byte-one x, byte-one y) refl)

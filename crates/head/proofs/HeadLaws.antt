@@ -26,7 +26,7 @@ use Rattle.pick.specs.declared.Picked.{Picked}
 use Rattle.pick.specs.declared.Picked.the-variants.{Short, Extended, Long}
 use Rattle.pick.proofs.PickLaws.{Small, small, short-is, extended-is, long-is, narrow-offsets, long-offsets}
 use Rattle.sign.proofs.SignLaws.{in-bits}
-use Rattle.head.specs.Head.{headOf, headFor, headLength, numbers, total, Fit, narrowValues, longValues, ScaledBelow, Ready}
+use Rattle.head.specs.Head.{headOf, headFor, headLength, numbers, total, Fit, narrowWidths, narrowValues, longValues, ScaledBelow, Ready}
 
 -- ---- the head of a packet before n raster bytes
 
@@ -68,10 +68,6 @@ narrowKinds k = unsigned k ∷ unsigned 1 ∷ unsigned 3 ∷ unsigned k ∷ unsi
 
 abbrev narrowFields : (k : ℕ) → F.Measures → ℕ → ℕ → Values (narrowKinds k)
 narrowFields k m dm n = (pos n, (pos (natAbs (m .code)), (m .tfm, (pos dm, (pos (natAbs (m .w)), (pos (natAbs (m .h)), (m .hoff, (m .voff, tt))))))))
-
--- Their widths; dy has no bytes.
-abbrev pub narrowWidths : ℕ → List ℕ
-narrowWidths k = k ∷ 1 ∷ 3 ∷ k ∷ 0 ∷ k ∷ k ∷ k ∷ k ∷ []
 
 -- What it is for their fields to be held.
 record Narrow (k : ℕ) (m : F.Measures) (dm : ℕ) : Type 0 where

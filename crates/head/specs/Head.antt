@@ -55,7 +55,11 @@ Fit (k ∷ ks) (v ∷ vs) = (k ≤ 4) × (v < 256 ^ k) × Fit ks vs
 
 -- ---- the numbers of the three forms
 
--- Those of a short packet, of k = 1, or of an extended one, of k = 2, for dm and a length; dy has no bytes.
+-- The widths of a short packet, of k = 1, or of an extended one, of k = 2; dy has no bytes.
+abbrev pub narrowWidths : ℕ → List ℕ
+narrowWidths k = k ∷ 1 ∷ 3 ∷ k ∷ 0 ∷ k ∷ k ∷ k ∷ k ∷ []
+
+-- Their numbers, for dm and a length.
 abbrev pub narrowValues : ℕ → F.Measures → F.Pixels → ℕ → List ℕ
 narrowValues k m (F.pixels dm) n =
     n ∷ mag (m .code) ∷ mag (m .tfm) ∷ dm ∷ 0 ∷ mag (m .w) ∷ mag (m .h) ∷ twos k (m .hoff) ∷ twos k (m .voff) ∷ []

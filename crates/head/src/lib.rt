@@ -1,7 +1,7 @@
 // The bytes of a packet before its raster, written into a lent buffer.
 ghost use Prim.Native.Nat.{_+_, _*_, _^_, _<_, _≤_};
 ghost use mathlib.Core.Path.{_≡_};
-ghost use mathlib.Core.List.{_∷_, _++_};
+ghost use mathlib.Core.List.{_∷_, [], _++_};
 ghost use lib.ListN.{length, drop};
 ghost use lib.Seq.{sets};
 ghost use lib.Signed.{mag};
@@ -12,7 +12,7 @@ ghost use Rattle.escapement.specs.Count.{wholeOf, scaledOf};
 ghost use Rattle.measures.specs.Said.{said};
 ghost use Rattle.pick.specs.Picks.{Judged, IsPicked};
 ghost use Rattle.pick.specs.declared.Picked.the-variants.{Short, Extended, Long};
-ghost use Rattle.head.specs.Head.{headFor, headLength, numbers, total, Fit, narrowValues, longValues, ScaledBelow, Ready};
+ghost use Rattle.head.specs.Head.{headFor, headLength, numbers, total, Fit, narrowWidths, narrowValues, longValues, ScaledBelow, Ready};
 use escapement::Pixels;
 use measures::Measures;
 use pick::Picked;
@@ -57,6 +57,36 @@ fn put_head(buf: &mut [u8], flag: u64, ks: [usize; 9], vs: [u64; 9]) -> usize
 {
     buf[0] = flag as u8;
     put_fields(buf, 1, ks, vs)
+}
+
+// The same for a short packet, which nearly every one is: byte after byte, with no loop.
+fn put_short(
+    buf: &mut [u8],
+    flag: u64,
+    size: u64,
+    code: u64,
+    tfm: u64,
+    dm: u64,
+    w: u64,
+    h: u64,
+    x: u64,
+    y: u64,
+) -> usize
+    requires { ⌜ (11 ≤ length (now buf)) × (flag < 256) × Fit (narrowWidths 1) (size ∷ code ∷ tfm ∷ dm ∷ 0 ∷ w ∷ h ∷ x ∷ y ∷ []) ⌝ }
+    ensures { λ r. ⌜ (r ≡ 11) × (now (buf .exit) ≡ (flag ∷ numbers (narrowWidths 1) (size ∷ code ∷ tfm ∷ dm ∷ 0 ∷ w ∷ h ∷ x ∷ y ∷ [])) ++ drop 11 (now (buf .entry))) ⌝ }
+{
+    buf[0] = flag as u8;
+    buf[1] = size as u8;
+    buf[2] = code as u8;
+    buf[3] = (tfm / 65536) as u8;
+    buf[4] = (tfm % 65536 / 256) as u8;
+    buf[5] = (tfm % 256) as u8;
+    buf[6] = dm as u8;
+    buf[7] = w as u8;
+    buf[8] = h as u8;
+    buf[9] = x as u8;
+    buf[10] = y as u8;
+    11
 }
 
 // z in two's complement, in k bytes.
@@ -132,7 +162,18 @@ fn write_short(
     let length = 8 + n as u64;
     let vs = narrow_values(m, 1, dm, x as i64, y as i64, length % 256);
     let flag = flag_of(f, black, length / 256);
-    put_head(buf, flag, [1, 1, 3, 1, 0, 1, 1, 1, 1], vs)
+    put_short(
+        buf,
+        flag,
+        vs[0],
+        vs[1],
+        vs[2],
+        vs[3],
+        vs[5],
+        vs[6],
+        vs[7],
+        vs[8],
+    )
 }
 
 // The head of an extended packet.

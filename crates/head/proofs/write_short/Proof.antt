@@ -1,4 +1,5 @@
 use borrow.Author.Needs.{needs}
+use mathlib.Core.Path.{refl}
 use native.Mathlib.Omega.{arith}
 use mir.Syntax.{w8}
 use Rattle.measures.specs.Said.{said}
@@ -33,8 +34,32 @@ flag-of-requires c κs =
     let a = o .args in
     (o .pre .0 .most, short-flag (a .buf .now) (a .f) (a .n) (said (a .m)) (o .pre .0))
 
-put-head-requires : tie.Need-put-head-requires
-put-head-requires c κs =
+array-read-put-short : tie.Need-array-read-put-short
+array-read-put-short c = search needs
+
+array-read-put-short-2 : tie.Need-array-read-put-short-2
+array-read-put-short-2 c = search needs
+
+array-read-put-short-3 : tie.Need-array-read-put-short-3
+array-read-put-short-3 c = search needs
+
+array-read-put-short-4 : tie.Need-array-read-put-short-4
+array-read-put-short-4 c = search needs
+
+array-read-put-short-5 : tie.Need-array-read-put-short-5
+array-read-put-short-5 c = search needs
+
+array-read-put-short-6 : tie.Need-array-read-put-short-6
+array-read-put-short-6 c = search needs
+
+array-read-put-short-7 : tie.Need-array-read-put-short-7
+array-read-put-short-7 c = search needs
+
+array-read-put-short-8 : tie.Need-array-read-put-short-8
+array-read-put-short-8 c = search needs
+
+put-short-requires : tie.Need-put-short-requires
+put-short-requires c κs =
     let o = c .before .before .before .before in
     let a = o .args in (
       o .pre .0 .room,
@@ -50,7 +75,7 @@ returns c =
     let o = c .before .before .before .before .before .before .before in
     let a = o .args in
     wrote-short (a .f) (a .black) (a .n) (said (a .m)) (a .buf .now) _ (a .dm .0) (o .pre .1) (o .pre .0)
-    (c .before .before .before .before .before .narrow-values .ensures) (c .before .before .before .before .flag-of .ensures .0) (c .before .before .put-head .ensures)
+    (rw (c .before .before .before .before .before .narrow-values .ensures) refl) (c .before .before .before .before .flag-of .ensures .0) (c .before .before .put-short .ensures)
 
 pub write-short-spec : {M : Type 1} → statement M
 write-short-spec =
@@ -61,6 +86,14 @@ write-short-spec =
     cast-narrow-values-2
     narrow-values-requires
     flag-of-requires
-    put-head-requires
+    array-read-put-short
+    array-read-put-short-2
+    array-read-put-short-3
+    array-read-put-short-4
+    array-read-put-short-5
+    array-read-put-short-6
+    array-read-put-short-7
+    array-read-put-short-8
+    put-short-requires
     same-length
     returns)
