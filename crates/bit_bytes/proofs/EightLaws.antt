@@ -49,6 +49,28 @@ byte-step [] v k (suc j) = byte-nil v k
 byte-step (x ∷ b) v k zero = byte-cons v k x b
 byte-step (x ∷ b) v k (suc j) = byte-step b v k j
 
+-- Two pixels as a number, and four such numbers as a byte.
+pub two-is : (b : List ℕ) (i : ℕ) {x y : ℕ} → allPixels b ≡ true → x ≡ getD b i 0 → y ≡ getD b (i + 1) 0 → (2 * x + y ≡ 2 * getD b i 0 + getD b (i + 1) 0) × (2 * x + y < 4)
+two-is b i h p q = (omega arith, omega (arith, pixel-small b i h, pixel-small b (i + 1) h))
+
+byte-two : (b : List ℕ) (v k j to x : ℕ) → to ≡ j + 2 → x ≡ 2 * getD b j 0 + getD b (j + 1) 0 → byteOf v (suc (suc k)) (drop j b) ≡ byteOf (4 * v + x) k (drop to b)
+byte-two b v k j to x t e =
+    let p : to ≡ suc (suc j) = omega arith in
+    let u : 2 * (2 * v + getD b j 0) + getD b (suc j) 0 ≡ 4 * v + x = omega (arith, ap (λ (i : ℕ). getD b i 0) (add-one j)) in
+    byte-step b v (suc k) j ∙ byte-step b (2 * v + getD b j 0) k (suc j) ∙ rw (u, p) refl
+
+pub whole-is : (b : List ℕ) (i x y z t : ℕ) → (x ≡ 2 * getD b i 0 + getD b (i + 1) 0) × (x < 4) → (y ≡ 2 * getD b (i + 2) 0 + getD b (i + 2 + 1) 0) × (y < 4)
+    → (z ≡ 2 * getD b (i + 4) 0 + getD b (i + 4 + 1) 0) × (z < 4) → (t ≡ 2 * getD b (i + 6) 0 + getD b (i + 6 + 1) 0) × (t < 4)
+    → (64 * x + 16 * y + 4 * z + t ≡ byteOf 0 8 (drop i b)) × (64 * x + 16 * y + 4 * z + t < 256)
+unfolding byteOf
+whole-is b i x y z t p q r s =
+    let n : 4 * (4 * (4 * (4 * 0 + x) + y) + z) + t ≡ 64 * x + 16 * y + 4 * z + t = omega arith in (
+      sym
+          (byte-two b 0 6 i (i + 2) x refl (p .0) ∙ byte-two b (4 * 0 + x) 4 (i + 2) (i + 4) y (omega arith) (q .0) ∙ byte-two b (4 * (4 * 0 + x) + y) 2 (i + 4) (i + 6) z (omega arith) (r .0)
+          ∙ byte-two b (4 * (4 * (4 * 0 + x) + y) + z) 0 (i + 6) (i + 8) t (omega arith) (s .0) ∙ n),
+      omega (arith, p .1, q .1, r .1, s .1),
+    )
+
 -- The pixels from i to j came to v, and k more are to be taken.
 pub record Eight (b : List ℕ) (i v j k : ℕ) : Type 0 where
   pub few : j + k ≡ i + 8

@@ -1,9 +1,9 @@
 // The raster bytes of a bitmap's bits (f = 14), written into a lent buffer.
-ghost use Prim.Native.Nat.{_+_, _≤_, _<_};
+ghost use Prim.Native.Nat.{_+_, _*_, _≤_, _<_};
 ghost use mathlib.Core.Path.{_≡_};
 ghost use mathlib.Core.Bool.{true};
 ghost use mathlib.Core.List.{_++_};
-ghost use lib.ListN.{length, take, drop};
+ghost use lib.ListN.{length, take, drop, getD};
 ghost use Rattle.format.specs.Rasters.{bytesOfBits};
 ghost use Rattle.format.specs.Choice.{byteOf, bitBytes};
 ghost use Rattle.format.specs.Packing.{allPixels};
@@ -20,11 +20,30 @@ fn pixel_at(b: &[u8], i: usize) -> usize
     0
 }
 
+// Two pixels from i on as a number.
+fn two(b: &[u8], i: usize) -> usize
+    requires { ⌜ (allPixels (now b) ≡ true) × (i + 2 ≤ length (now b)) ⌝ }
+    ensures { λ r. ⌜ (r ≡ 2 * getD (now (b .entry)) i 0 + getD (now (b .entry)) (i + 1) 0) × (r < 4) ⌝ }
+{
+    2 * byte::wide(b[i]) + byte::wide(b[i + 1])
+}
+
+// Eight pixels from i on as a byte, all of them there: no test for each.
+fn whole(b: &[u8], i: usize) -> usize
+    requires { ⌜ (allPixels (now b) ≡ true) × (i + 8 ≤ length (now b)) ⌝ }
+    ensures { λ r. ⌜ (r ≡ byteOf 0 8 (drop i (now (b .entry)))) × (r < 256) ⌝ }
+{
+    64 * two(b, i) + 16 * two(b, i + 2) + 4 * two(b, i + 4) + two(b, i + 6)
+}
+
 // Eight pixels from i on as a byte.
 fn eight(b: &[u8], i: usize) -> usize
     requires { ⌜ (allPixels (now b) ≡ true) × (i < length (now b)) ⌝ }
     ensures { λ r. ⌜ (r ≡ byteOf 0 8 (drop i (now (b .entry)))) × (r < 256) ⌝ }
 {
+    if 8 <= b.len() - i {
+        return whole(b, i);
+    }
     let mut v: usize = 0;
     let mut j = i;
     let mut k: usize = 8;
