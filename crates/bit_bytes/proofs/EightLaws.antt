@@ -17,7 +17,7 @@ use Rattle.format.proofs.Tests.{and-true}
 use Rattle.format.proofs.HalfLaws.{length-bit-bytes}
 use Rattle.bit_bytes.specs.Pixels.{PixelAt}
 
--- ---- one pixel
+-- One pixel.
 
 pixel-small : (b : List ℕ) (i : ℕ) → allPixels b ≡ true → getD b i 0 < 2
 unfolding allPixels
@@ -32,7 +32,7 @@ pixel-in b i r h e = record { is = e; small = omega (arith, pixel-small b i h) }
 pub pixel-out : (b : List ℕ) (i : ℕ) → length b ≤ i → PixelAt b i 0
 pixel-out b i h = record { is = sym (List·getD-eq-default b 0 {n = i} h); small = omega arith }
 
--- ---- one byte
+-- One byte.
 
 byte-nil : (v k : ℕ) → byteOf v (suc k) [] ≡ byteOf (2 * v + 0) k []
 unfolding byteOf
@@ -110,7 +110,7 @@ pub eight-end : {b : List ℕ} {i v j k : ℕ} → Eight b i v j k → k ≡ 0 �
 unfolding byteOf
 eight-end e z = (sym (e .is ∙ rw z refl), eight-small e)
 
--- ---- all bytes
+-- All bytes.
 
 -- The bytes of the pixels from i on.
 abbrev bytesFrom : List ℕ → ℕ → List ℕ

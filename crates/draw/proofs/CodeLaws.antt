@@ -25,7 +25,7 @@ use Rattle.glyph.specs.Packets.{IsDrawn, IsPixels}
 use Rattle.glyph.specs.declared.Drawn.{Drawn}
 use Rattle.glyph.specs.declared.Drawn.the-variants.{Refused}
 
--- ---- an accepted font
+-- An accepted font.
 
 module _ (font : List ℕ) (x : Parts) (c : Cut font x) (code : ℕ) (buffer : List ℕ) where
   module _ (at : ℕ) (o : Outline) (t : Stood font code (packets (x .pieces)) at o) where
@@ -54,7 +54,7 @@ module _ (font : List ℕ) (x : Parts) (c : Cut font x) (code : ℕ) (buffer : L
 pub accepted : (font : List ℕ) → Bytes font → (a : Checked) (n : ℕ) → a ≡ C.Chars n → A.inNumbers a ≡ told (check font) → Accepted font
 accepted font b a n e h = let t = accepted-exactly font b a h n .0 e in (t .0, t .1)
 
--- ---- a refused font
+-- A refused font.
 
 refused-told : (v : Answer Parts) (code room number place : ℕ) → refuses number place ≡ told (answers chars v) → refuses number place ≡ told (answers (λ t. t .0) (drawFrom code room v))
 unfolding told answers drawFrom

@@ -29,7 +29,7 @@ use Rattle.glyph.specs.Answer.{inNumbers}
 use Rattle.glyph.specs.declared.Drawn.{Drawn}
 use Rattle.glyph.specs.declared.Drawn.the-variants.{Measured, Refused}
 
--- ---- one answer
+-- One answer.
 
 -- An answer is told by its numbers.
 pub one-number : (r t : Drawn) → inNumbers r ≡ inNumbers t → r ≡ t
@@ -44,7 +44,7 @@ pub one-answer : (s : List ℕ) (code : ℕ) (buffer : List ℕ) (r t : Drawn) (
     → inNumbers r ≡ told (drawAnswer s code buffer) → after ≡ drawBuffer s code buffer → inNumbers t ≡ told (drawAnswer s code buffer) → after′ ≡ drawBuffer s code buffer → (r ≡ t) × (after ≡ after′)
 one-answer s code buffer r t after after′ e o f q = (one-number r t (e ∙ sym f), o ∙ sym q)
 
--- ---- what it says
+-- What it says.
 
 -- An answer r that the promise allows of a font s, a code and a lent buffer, and what the buffer holds afterwards.
 module _ (s : List ℕ) (code : ℕ) (buffer : List ℕ) (r : Drawn) (after : List ℕ) (promised : inNumbers r ≡ told (drawAnswer s code buffer)) (left : after ≡ drawBuffer s code buffer) where
@@ -126,7 +126,7 @@ module _ (s : List ℕ) (code : ℕ) (buffer : List ℕ) (r : Drawn) (after : Li
       go x c (T.tooShort t q) = let a = seventeen x c t in tooShort x c t (a .0) (a .1)
       go x c (T.absent t q) = let a = sixteen x c t in absent x c t (a .0) (a .1)
 
--- ---- what changes nothing
+-- What changes nothing.
 
 -- Answers q and r that the promise allows of two fonts that draw alike are equal, and so are the buffers afterwards.
 alike : (s t : List ℕ) (code : ℕ) (buffer : List ℕ) (q r : Drawn) → draw s code (length buffer) ≡ draw t code (length buffer)

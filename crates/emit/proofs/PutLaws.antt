@@ -50,7 +50,7 @@ pub put-one : (d : List ℕ) (i x : ℕ) → putOne d i x ≡ putAll d i (x ∷ 
 unfolding putAll
 put-one d i x = refl
 
--- ---- the digits of a large number
+-- The digits of a large number.
 
 -- How many nybbles it takes.
 pub large-length-one : (k : ℕ) → k < 16 → length (large k) ≡ 1
@@ -72,7 +72,7 @@ done-more d d₁ d₂ d₃ i k at h e₁ e₂ e₃ = (
   e₃ ∙ rw (e₂ .1, e₂ .0, e₁, large-more k h, put-append (large (k / 16)) (k % 16 ∷ []) (putOne d i 0) (i + 1)) refl,
 )
 
--- ---- a whole number
+-- A whole number.
 
 -- A number in one nybble, in two, and above the limit.
 pub number-one : (d e : List ℕ) (i f n : ℕ) → n ≤ f → e ≡ putOne d i n → (i + 1 ≡ i + length (encode f n)) × (e ≡ putAll d i (encode f n))
@@ -98,7 +98,7 @@ pub number-large : (f n m : ℕ) → f ≤ 13 → f < n → 13 ≤ (n - f - 1) /
 unfolding encode
 number-large f n m h g l e = rw (e, lt-leb n f g, lt-leb n (limit f) (first-above f n h g l)) refl
 
--- ---- the bytes
+-- The bytes.
 
 -- The first nybble of a byte sets it, and the second completes it.
 one : (d : List ℕ) (j a : ℕ) → putOne d (2 * j) a ≡ set d j (a * 16)

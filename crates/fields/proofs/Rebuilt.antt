@@ -24,7 +24,7 @@ values-at n k e = ap (λ (x : ℕ). 256 ^ x) e
 pub values-most : (i j : ℕ) → i ≤ j → 256 ^ i ≤ 256 ^ j
 values-most i j h = pow-le-pow-right {n = 256} (omega arith) {i = i} {j = j} h
 
--- ---- a number of k bytes
+-- A number of k bytes.
 
 -- n is what the first i of the k bytes came to, and the others are still to be read.
 pub record Rebuilt (s : List ℕ) (at k n i : ℕ) : Type 0 where
@@ -74,7 +74,7 @@ rebuilt-end s at k n i x h =
     let r = x .rest ∙ ap (λ (y : ℕ). n * 256 ^ y + number y (drop (at + i) s)) u in
     record { is = omega arith; small = subst (λ (y : ℕ). n < 256 ^ y) e (x .small) }
 
--- ---- two's complement
+-- Two's complement.
 
 -- Minus a number below 2^63 is an i64.
 minus-fits : (m : ℕ) → m < 2 ^ 63 → SFits w64 (negℤ (pos m))

@@ -20,7 +20,7 @@ pub record Rest (s : List ℕ) (at : ℕ) (ps : List Piece) (pad : ℕ) : Type 0
   pub whole : drop at s ≡ flat ps ++ 245 ∷ replicate pad 246
   pub pieces : AllOk ps
 
--- ---- the first pieces
+-- The first pieces.
 
 -- All of them stand behind the preamble.
 pub rest-start : (s : List ℕ) (x : Parts) → Cut s x → Rest s (length (preambleBytes (x .preamble))) (x .pieces) (x .pad)
@@ -36,7 +36,7 @@ pub preamble-third : (s : List ℕ) (x : Parts) → Cut s x → (2 < length s) �
 unfolding join preambleBytes
 preamble-third s x c = rw (c .whole) (omega arith, sym (preamble-length (x .preamble)))
 
--- ---- a piece
+-- A piece.
 
 -- At a place a piece is found, and the others stand behind it.
 pub record Next (s : List ℕ) (at : ℕ) (p : Piece) (ps : List Piece) (pad : ℕ) : Type 0 where
@@ -69,7 +69,7 @@ rest-next s at p ps pad t =
       };
     }
 
--- ---- the ending
+-- The ending.
 
 -- Where no piece is left the 245 stands.
 pub rest-last : (s : List ℕ) (at pad : ℕ) → Rest s at [] pad → step (drop at s) ≡ ok (last (replicate pad 246))

@@ -20,7 +20,7 @@ use Rattle.font.specs.Turns.{IsOnward}
 use Rattle.font.specs.declared.Checked.{Checked}
 use Rattle.font.specs.declared.Checked.the-variants.{Refused}
 
--- ---- the preamble
+-- The preamble.
 
 pub begin-empty : (s : List ℕ) → length s ≡ 0 → Refused (coded noPreamble) 0 ≡ toChecked (answers chars (begin s))
 unfolding toChecked answers begin
@@ -77,7 +77,7 @@ module _ (s : List ℕ) (k : ℕ) (e : getD s 0 0 ≡ 247) (f : getD s 1 0 ≡ 8
           let d : drop start (a ∷ b ∷ c ∷ t) ≡ drop (k + 16) t = ap (λ (n : ℕ). drop n (a ∷ b ∷ c ∷ t)) (sym i) ∙ sym (drop-drop (k + 16) 3 (a ∷ b ∷ c ∷ t)) in
           q (preambleOf (take k t) (readFields preambleKinds (drop k t))) ∙ rw (d, j, eq-eqb a 247 e, eq-eqb b 89 f, ← h, le-ltb (length t) (k + 16) (omega arith)) refl
 
--- ---- the whole font
+-- The whole font.
 
 pub check-long : (s : List ℕ) → 65536 < length s → Refused (coded tooLong) 0 ≡ toChecked (check s)
 unfolding toChecked answers check verdict
@@ -87,7 +87,7 @@ pub check-begin : (s : List ℕ) (r : Checked) → length s ≤ 65536 → r ≡ 
 unfolding check verdict
 check-begin s r l e = e ∙ rw (le-ltb most (length s) l) refl
 
--- ---- in 01's numbers
+-- In 01's numbers.
 
 pub numbers-told : (s : List ℕ) (r : Checked) → Bytes s → r ≡ toChecked (check s) → inNumbers r ≡ told (check s)
 unfolding toChecked inNumbers told

@@ -20,7 +20,7 @@ use Rattle.font.specs.Answer.{toChecked}
 use Rattle.font.specs.Turns.{IsEnding}
 use Rattle.font.specs.declared.Checked.the-variants.{Chars, Refused}
 
--- ---- only 246
+-- Only 246.
 
 module _ (s : List ℕ) where
   pub all-none : (i : ℕ) → length s ≤ i → true ≡ all 246 (drop i s)
@@ -35,7 +35,7 @@ module _ (s : List ℕ) where
   unfolding all
   all-more i h e = rw (drop-cons s i 0 h, eq-eqb (getD s i 0) 246 e, add-one) refl
 
--- ---- the answers
+-- The answers.
 
 some-codes : (codes : List ℕ) (n : ℕ) → length codes ≡ n → (n ≡ 0 → ⊥) → isNil codes ≡ false
 unfolding isNil

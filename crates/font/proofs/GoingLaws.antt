@@ -30,7 +30,7 @@ use Rattle.font.specs.declared.Turn.the-variants.{Packet, Command, Last,
 use Rattle.font.specs.declared.Checked.{Checked}
 use Rattle.font.specs.declared.Checked.the-variants as C
 
--- ---- the codes seen
+-- The codes seen.
 
 marks-none : Marks (replicate 256 false) []
 unfolding elem
@@ -52,7 +52,7 @@ marks-more seen cs c l m =
           (λ t. getD-set-other seen c d true false (eqb-false d c t) ∙ m .marked d k ∙ rw t refl);
     }
 
--- ---- the answer from here on
+-- The answer from here on.
 
 -- At a place of the font s, behind n characters with the codes marked, what is answered from the start on is answered from here on.
 pub record Going (s : List ℕ) (start at n : ℕ) (seen : List Bool) : Type 0 where
@@ -81,7 +81,7 @@ going-start s start seen b l e =
       same = λ a. ap toChecked (none-more (onward a start [] (drop start s)));
     }
 
--- ---- a piece in order
+-- A piece in order.
 
 packets-more : (p : F.Piece) (ps : List F.Piece) → length (packets (p ∷ ps)) ≡ length (packets (p ∷ [])) + length (packets ps)
 unfolding packets
@@ -150,7 +150,7 @@ going-on s start at n seen seen′ g p r is e c m =
           ∙ rw (e, c, b .place, b .rest) (ap toChecked (chars-more n p (onward q (length s - length r) (codes (packets (p ∷ [])) ++ g .before) r)));
     }
 
--- ---- what each turn gives
+-- What each turn gives.
 
 abbrev pub Goes : List ℕ → ℕ → ℕ → ℕ → List Bool → Turn → Type 0
 Goes s start at n seen (Packet code to) = (at < to) × (code < 256) × Going s start to (n + 1) (set seen code true)

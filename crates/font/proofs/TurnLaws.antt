@@ -26,7 +26,7 @@ use Rattle.font.specs.Turns.{Marks, judgedTurn, asTurn, packetTurn, toTu
 use Rattle.font.specs.declared.Turn.{Turn}
 use Rattle.font.specs.declared.Turn.the-variants.{Packet, Command, Last, Refused}
 
--- ---- a packet
+-- A packet.
 
 pub seen-before : (seen : List Bool) (codes : List ℕ) (x : Outline) (raster : List ℕ) → Marks seen codes → x .code < 256 → getD seen (x .code) false ≡ true
     → Refused (coded codeTwice) ≡ packetTurn codes x raster
@@ -44,7 +44,7 @@ unfolding packetTurn need _>>=_
 not-before seen codes x raster j m l e q =
     ap (λ (i : Judged). asTurn i (x .code) (x .end)) q ∙ as-judged (x .code) (x .end) (items (x .f) (x .w) (x .h) raster) ∙ rw (sym (m .marked (x .code) l) ∙ e) refl
 
--- ---- a piece
+-- A piece.
 
 -- The turn that a piece makes; and what is known of it, if it is a packet.
 abbrev pub turnOf : List ℕ → List ℕ → Piece → Turn

@@ -20,7 +20,7 @@ use Rattle.font.specs.declared.Turn.{Turn}
 use Rattle.font.specs.declared.Turn.the-variants.{Packet, Command, Last, Refused}
 use Rattle.font.specs.declared.Checked.{Checked}
 
--- ---- a piece
+-- A piece.
 
 -- The array marks the codes seen.
 pub record Marks (seen : List Bool) (codes : List ℕ) : Type 0 where
@@ -62,7 +62,7 @@ toTurn n codes (fault x) = Refused (coded x)
 abbrev pub IsTurn : List Bool → ℕ → Result Front → Turn → Type 0
 IsTurn seen n front r = (codes : List ℕ) → Marks seen codes → r ≡ toTurn n codes front
 
--- ---- the pieces
+-- The pieces.
 
 -- The number of characters of parts behind n characters.
 abbrev pub charsAfter : ℕ → Parts → ℕ

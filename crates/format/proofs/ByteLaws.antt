@@ -24,7 +24,7 @@ bytes-join : (s t : List ℕ) → Bytes s → Bytes t → Bytes (s ++ t)
 bytes-join [] t h k = k
 bytes-join (x ∷ s) t h k = (h .0, bytes-join s t (h .1) k)
 
--- ---- fields
+-- Fields.
 
 fields-are : (ks : List Kind) (v : Values ks) → allHeld ks v ≡ true → Bytes (fieldBytes ks v)
 unfolding fieldBytes allHeld
@@ -35,7 +35,7 @@ fields-are (k ∷ ks) v e =
     (bytes-are (width k) (twos (width k) (v .0)) (value-twos k (v .0) (t .0) .1))
     (fields-are ks (v .1) (t .1))
 
--- ---- rasters
+-- Rasters.
 
 halves-are : (xs : List ℕ) → Nybbles xs → Bytes (halves xs)
 unfolding halves
@@ -72,7 +72,7 @@ raster-are f is b l e =
     test (eqb f 14) (λ t. rw t (bit-bytes-are (bytesOfBits (length b)) b e))
     (λ t. rw t (let z : f ≡ 14 → ⊥ = eqb-false f 14 t in halves-are (writings f is) (writings-nybbles f is (omega (arith, z)))))
 
--- ---- a packet, and a font
+-- A packet, and a font.
 
 pub packet-are : (p : Packet) → PacketOk p → Bytes (p .raster) → Bytes (bytesOf (packet p))
 unfolding bytesOf

@@ -15,7 +15,7 @@ use Rattle.format.specs.Counts.{Pixel, pixel, Run, stretch, grow, runs, 
 use Rattle.format.proofs.Tests.{test, cond-same}
 use Rattle.format.proofs.ItemLaws.{had}
 
--- ---- pixels as runs
+-- Pixels as runs.
 
 -- The colours of pixels,
 unfoldable pub colours : List Pixel → List ℕ

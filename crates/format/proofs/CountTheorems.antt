@@ -23,7 +23,7 @@ use Rattle.format.proofs.PixelLaws.{pixels-cut}
 use Rattle.format.proofs.CountLaws.{colours, singles, string-runs, repeats-runs, numbers-runs}
 use Rattle.format.proofs.KeptLaws.{spelled, flat, spelled-kept, Bitmap, Fit, fit-kept, colours-strung, good-strung, sent-strung, grid-strung}
 
--- ---- nybbles in bytes
+-- Nybbles in bytes.
 
 -- Nybbles put into bytes are those nybbles, and the spare half.
 halves-nybbles : (xs : List ℕ) → Nybbles xs → nybbles (halves xs) ≡ xs ++ spare (length xs)
@@ -48,7 +48,7 @@ writings-nybbles f (run n ∷ is) h = nybbles-join (encode f n) (writings f is) 
 writings-nybbles f (fourteen n ∷ is) h = (omega arith, nybbles-join (encode f n) (writings f is) (encode-nybbles f n h) (writings-nybbles f is h))
 writings-nybbles f (fifteen ∷ is) h = (omega arith, writings-nybbles f is h)
 
--- ---- a bitmap's rows
+-- A bitmap's rows.
 
 -- They are w wide, of pixels 0 and 1,
 rows-bitmap : (w h : ℕ) (b : List ℕ) → length b ≡ w * h → allPixels b ≡ true → Bitmap w (rows w h b)
@@ -92,7 +92,7 @@ first-colour f b h e =
     rw (ne-eqb f 14 (λ q. omega arith))
     (test (eqb (getD b 0 0) 1) (λ t. rw t (sym (eqb-true (getD b 0 0) 1 t))) (λ t. let n = eqb-false (getD b 0 0) 1 t in rw t (omega arith)))
 
--- ---- runs
+-- Runs.
 
 module _ (f w h : ℕ) (b : List ℕ) (hf : f ≤ 13) (wide : 0 < w) (high : 0 < h) (l : length b ≡ w * h) (e : allPixels b ≡ true) where
   fit : Fit w (kept (rows w h b))
@@ -135,7 +135,7 @@ module _ (f w h : ℕ) (b : List ℕ) (hf : f ≤ 13) (wide : 0 < w) (high : 0 <
         drawn-is = sym (rw (counts-repeats, counts-string, sent-strung w imaginary k wide (omega arith) fit, spelled-kept (rows w h b)) (rows-joined w h b l));
       }
 
--- ---- bits
+-- Bits.
 
 -- The first k of the entries, with zeros for those that are missing.
 unfoldable padded : ℕ → List ℕ → List ℕ
@@ -221,7 +221,7 @@ bits-draw w h b l e =
       bits-are = bits-bytes n b e ∙ padded-is (8 * n) b (omega arith);
     }
 
--- ---- any raster
+-- Any raster.
 
 -- The raster of a bitmap draws that very bitmap.
 pub raster-draws : (w h : ℕ) (b : List ℕ) (f : ℕ) → f ≤ 14 → inLimits w h ≡ true → (w ≡ 0 → f ≡ 14) → length b ≡ w * h → allPixels b ≡ true

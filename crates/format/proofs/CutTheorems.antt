@@ -24,7 +24,7 @@ unfolding isNil
 nil-length [] = refl
 nil-length (x ∷ xs) = sym (ne-eqb (suc (length xs)) 0 (λ q. omega arith))
 
--- ---- a cut is accepted
+-- A cut is accepted.
 
 preamble-read : (a : Preamble) (t : List ℕ) → PreambleOk a
     → preambleAt (length (a .comment) ∷ (a .comment ++ (fieldBytes preambleKinds (preambleValues a) ++ t))) ≡ onward a (length (a .comment) + 19) [] t
@@ -76,7 +76,7 @@ cut-verdict s x c =
     let t = flat (x .pieces) ++ 245 ∷ replicate (x .pad) 246 in
     preamble-verdict s a t (c .small) (c .whole) (c .preamble) ∙ tail-onward a (x .pieces) (x .pad) (length (preambleBytes a)) [] t (cut-tail s x c)
 
--- ---- what is accepted is cut
+-- What is accepted is cut.
 
 -- The preamble that is read stands there.
 pub preamble-is : (k : ℕ) (s : List ℕ) → k < 256 → Bytes s → k + 16 ≤ length s
@@ -137,7 +137,7 @@ verdict-cut s x hs e =
     let u = or-refused x (ltb 65536 (length s)) tooLong 0 _ e in
     begin-cut s x (ltb-false 65536 (length s) (u .0)) hs (u .1)
 
--- ---- accepted exactly when a cut exists
+-- Accepted exactly when a cut exists.
 
 -- The parts that are found are those of the cut.
 pub accepts : (s : List ℕ) (x : Parts) → Bytes s → (verdict s ≡ gives x) ↔ Cut s x

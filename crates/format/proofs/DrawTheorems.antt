@@ -33,7 +33,7 @@ find-fault code (q ∷ ps) r e =
     (λ t. let z : ok q ≡ fault r = rw t at e in absurd (fault≢ (sym z)))
     (λ t. find-fault code ps r (rw t at e))
 
--- ---- a packet of the cut
+-- A packet of the cut.
 
 packets-at : (before behind : List Piece) (p : Packet) → packets (before ++ packet p ∷ behind) ≡ packets before ++ p ∷ packets behind
 unfolding packets

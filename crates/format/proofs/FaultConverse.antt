@@ -19,7 +19,7 @@ use Rattle.format.proofs.CutTheorems.{preamble-verdict, cut-verdict, ve
 use Rattle.format.proofs.PieceFaultConverse.{piece-refused}
 use Rattle.format.proofs.FaultTheorems.{reseen, refusal-means, check-means}
 
--- ---- 1 to 3, and a preamble cut short
+-- 1 to 3, and a preamble cut short.
 
 begin-first : (b : ℕ) (t : List ℕ) → (b ≡ 247 → ⊥) → begin (b ∷ t) ≡ refused noPreamble 0
 unfolding begin
@@ -36,7 +36,7 @@ judged : (s : List ℕ) → length s ≤ most → verdict s ≡ begin s
 unfolding verdict
 judged s l = rw (le-ltb most (length s) l) refl
 
--- ---- a piece at fault, behind pieces in order
+-- A piece at fault, behind pieces in order.
 
 blames-refused : (s : List ℕ) (x : Refusal) (place : ℕ) → Bytes s → Blames s x place → verdict s ≡ refused x place
 blames-refused s x place h b =
@@ -54,7 +54,7 @@ blames-refused s x place h b =
     ∙ ap (inFront (b .before)) e
     ∙ front-refused x place (b .before)
 
--- ---- the font
+-- The font.
 
 -- What a refusal means is refused so.
 pub means-refusal : (s : List ℕ) (x : Refusal) (place : ℕ) → Bytes s → Means s x place → verdict s ≡ refused x place

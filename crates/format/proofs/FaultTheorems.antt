@@ -26,7 +26,7 @@ use Rattle.format.proofs.OnwardLaws.{bytes-right, Good, checked-good, w
 use Rattle.format.proofs.CutTheorems.{preamble-length, preamble-is}
 use Rattle.format.proofs.PieceFaultLaws.{Tells, step-tells, checked-tells, ending-tells}
 
--- ---- from a place on
+-- From a place on.
 
 -- The bytes s, at a place behind packets with the codes seen, are pieces in order and then, at the place `to`, a piece at fault.
 record Later (place : ℕ) (seen s : List ℕ) (x : Refusal) (to : ℕ) : Type 0 where
@@ -91,7 +91,7 @@ module _ (a : Preamble) where
           refused-to (ending a place seen r) (λ x to q. subst (Later place seen s x) (q .0) (here place seen s x (rw k (q .1)))) (ending-tells a place seen r)
       go ih (fault x) k m t = here place seen s x (t place seen)
 
--- ---- the font
+-- The font.
 
 -- What is said of the codes seen is said of the packets' codes.
 pub reseen : (place : ℕ) (seen seen′ s : List ℕ) (x : Refusal) → ((c : ℕ) → elem c seen ≡ elem c seen′) → ((seen ≡ []) ↔ (seen′ ≡ []))
@@ -163,7 +163,7 @@ pub check-means : (s : List ℕ) (x : Refusal) (place : ℕ) → Bytes s → che
 unfolding check
 check-means s x place b e = subst (IfRefused (Means s)) e (refused-answers (Means s) _ (verdict s) (verdict-means s b))
 
--- ---- the place
+-- The place.
 
 raster-place : {f w h : ℕ} {bytes : List ℕ} (x : Refusal) (place : ℕ) → RasterFault f w h bytes x → numberAndPlace x place ≡ (numberAndPlace x 0 .0, place)
 raster-place _ place (inItems s xs p l e (unfinished m u)) = refl

@@ -27,7 +27,7 @@ pub bytes-of : (s : List ℕ) → ((i : ℕ) → getD s i 0 < 256) → Bytes s
 bytes-of [] l = tt
 bytes-of (b ∷ s) l = (l 0, bytes-of s (λ i. l (suc i)))
 
--- ---- numbers
+-- Numbers.
 
 pub length-bytes : (k n : ℕ) → length (bytes k n) ≡ k
 unfolding bytes
@@ -69,7 +69,7 @@ bytes-number (suc k) (b ∷ s) h l =
     let m : (b * 256 ^ k + number k s) % 256 ^ k ≡ number k s = mul-add-mod-self-right b (256 ^ k) (number k s) ∙ mod-eq-of-lt i in
     rw (q, m, bytes-number k s (h .1) (omega arith))
 
--- ---- one field
+-- One field.
 
 -- What it is for a field to hold a value, as an order of numbers.
 abbrev pub Held : Kind → ℤ → Type 0
@@ -116,7 +116,7 @@ twos-value (signed k) n h = go (ltb (2 * n) (256 ^ k)) refl
     go true e = (refl, is-held (signed k) (pos n) (ltb-true (2 * n) (256 ^ k) e))
     go false e = let l = ltb-false (2 * n) (256 ^ k) e in (omega arith, is-held (signed k) (negsuc (256 ^ k - suc n)) (omega arith))
 
--- ---- fields in a row
+-- Fields in a row.
 
 pub length-fields : (ks : List Kind) (v : Values ks) → length (fieldBytes ks v) ≡ size ks
 unfolding fieldBytes

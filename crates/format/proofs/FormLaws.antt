@@ -20,7 +20,7 @@ use Rattle.format.proofs.Tests.{test, and-true}
 use Rattle.format.proofs.ItemLaws.{fault≢}
 use Rattle.format.proofs.PieceLaws.{box-true, code-true}
 
--- ---- f, the black bit and the raster bytes
+-- f, the black bit and the raster bytes.
 
 -- The values of the fields before n raster bytes: f, the black bit and the bytes do not stand in them.
 abbrev pub valuesFor : Measures → ℕ → (k : Form) → Values (kinds k)
@@ -49,7 +49,7 @@ pub form-length : (f : ℕ) (black : Bool) (m : Measures) (raster : List ℕ) (k
 form-length f black m raster k =
     rw (holds-for f black m raster k, holds-for 0 false m (replicate (length raster) 0) k, length-replicate {A = ℕ} (length raster) 0) refl
 
--- ---- the first form that holds
+-- The first form that holds.
 
 -- What an answer says.
 abbrev Says : Measures → (Form → Packet) → Result Packet → Type 0
@@ -110,7 +110,7 @@ first-fault m p x e =
     (λ u. let e2 = rw u at e1 in
     test (holds m (p long)) (λ v. absurd (fault≢ (sym (rw v at e2)))) (λ v. let e3 : fault noForm ≡ fault x = rw v at e2 in cc)))
 
--- ---- the form for a raster's length is the form for the raster
+-- The form for a raster's length is the form for the raster.
 
 -- The form of the packet chosen is the first that holds.
 pub first-of : (f : ℕ) (black : Bool) (m : Measures) (raster : List ℕ) (k : Form) → firstForm m (inForm f black m raster) ≡ ok (inForm f black m raster k)
@@ -138,7 +138,7 @@ module _ (f : ℕ) (black : Bool) (m : Measures) (raster : List ℕ) where
   pub none-length : firstForm m tried ≡ fault noForm → firstForm m (inForm f black m raster) ≡ fault noForm
   none-length e = none-is m (inForm f black m raster) (λ k. form-length f black m raster k ∙ none-exactly m tried .0 e k)
 
--- ---- the packet says what was handed in
+-- The packet says what was handed in.
 
 pub same-is : (a b : Scaled) → sameScaled a b ≡ true → a ≡ b
 unfolding sameScaled

@@ -16,7 +16,7 @@ use Rattle.format.specs.Reading.{numberOf, runAt, repeatAt, itemOf}
 use Rattle.format.proofs.Tests.{split}
 use Rattle.format.proofs.PackedLaws.{Nybbles, decode-first, decode-encode, decode-written}
 
--- ---- results
+-- Results.
 
 pub fault≢ : {A : Type 0} {x : Refusal} {a : A} → fault x ≡ ok a → ⊥
 fault≢ e = let z : _≡_ {A = ℕ} 0 1 = cc in omega arith
@@ -32,7 +32,7 @@ number-ok (value n r) t e = let p : (n, r) ≡ t = cc in ap (λ (x : ℕ × List
 number-ok ends t e = absurd (fault≢ e)
 number-ok mark t e = absurd (fault≢ e)
 
--- ---- what is written is read back
+-- What is written is read back.
 
 -- The repeat that a row has had, none for 0.
 abbrev pub had : ℕ → List ℕ
@@ -68,7 +68,7 @@ item-read f (suc rep) (fourteen n) ys hf p q = absurd (omega arith)
 item-read f zero fifteen ys hf p q = refl
 item-read f (suc rep) fifteen ys hf p q = absurd (omega arith)
 
--- ---- whatever is read was so written
+-- Whatever is read was so written.
 
 pub record Took (f rep : ℕ) (xs : List ℕ) (i : Item) (ys : List ℕ) : Type 0 where
   pub cut : xs ≡ written f i ++ ys
@@ -105,7 +105,7 @@ item-took f rep (x ∷ xs) i ys hf s e =
     again zero e t = repeat-took f x xs i ys hf t (s .0) (s .1) e
     again (suc r) e t = absurd (fault≢ (rw (lt-ltb 0 (suc r) (omega arith)) at e))
 
--- ---- so the items are determined
+-- So the items are determined.
 
 free-none : (i : Item) → Free 0 i
 free-none (run n) = omega arith

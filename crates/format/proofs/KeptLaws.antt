@@ -18,7 +18,7 @@ use Rattle.format.proofs.ItemLaws.{had-once}
 use Rattle.format.proofs.RowLaws.{sent-row, row-on, from, had-sum, from-run, from-repeat, from-past, from-later, from-start}
 use Rattle.format.proofs.CountLaws.{colours, singles, Good}
 
--- ---- rows kept
+-- Rows kept.
 
 -- Rows that are found equal are equal.
 same-is : (r s : List ℕ) → same r s ≡ true → r ≡ s
@@ -85,7 +85,7 @@ unfolding kept
 fit-kept w [] b = tt
 fit-kept w (r ∷ rs) b = fit-above w r (kept rs) (b .0) (b .1) (fit-kept w rs (b .2))
 
--- ---- the joined string
+-- The joined string.
 
 colours-placed : (p n : ℕ) (r : List ℕ) (ps : List Pixel) → colours (placed p n r ++ ps) ≡ r ++ colours ps
 unfolding colours placed
@@ -117,7 +117,7 @@ unfolding lastOf allPixels
 last-small p [] h b = h
 last-small p (x ∷ r) h b = let t = and-true (ltb x 2) (allPixels r) b in last-small x r (ltb-true x 2 (t .0)) (t .1)
 
--- ---- the repeats by row
+-- The repeats by row.
 
 module _ (w : ℕ) where
   -- Past a pixel that has none,

@@ -21,7 +21,7 @@ use Rattle.format.proofs.FillLaws.{draws-items, items-draws}
 use Rattle.format.proofs.ShorterLaws.{Less, less-rest, step-less, onward-step}
 use Rattle.format.proofs.CodeLaws.{Fresh, seenAfter}
 
--- ---- taking answers apart
+-- Taking answers apart.
 
 pub refused≢ : {A : Type 0} {x : Refusal} {place : ℕ} {a : A} → refused x place ≡ gives a → ⊥
 refused≢ e = let z : _≡_ {A = ℕ} 0 1 = cc in omega arith
@@ -56,7 +56,7 @@ pub raster-bytes : (p : Packet) (r : List ℕ) → Bytes (bytesOf (packet p) ++ 
 unfolding bytesOf
 raster-bytes p r h = bytes-right (fieldBytes (kinds (p .form)) (fields p)) (p .raster) (bytes-left (flag p ∷ (fieldBytes (kinds (p .form)) (fields p) ++ p .raster)) r h .1)
 
--- ---- one piece
+-- One piece.
 
 -- The packets of a piece are fresh, and their rasters filled.
 abbrev pub Good : List ℕ → Piece → Type 0
@@ -81,7 +81,7 @@ good-checked seen (packet p) o g =
     let d = draws-items (p .f) (p .black) (p .w) (p .h) (p .raster) (g .1 .0 .0) (o .limits) (g .1 .0 .1) in
     (d .0, rw (g .0 .0) (d .1))
 
--- ---- the pieces from a place on
+-- The pieces from a place on.
 
 -- The bytes s, at a place behind packets with the codes seen, are pieces and an ending.
 pub record Tail (place : ℕ) (seen s : List ℕ) (ps : List Piece) (pad : ℕ) : Type 0 where

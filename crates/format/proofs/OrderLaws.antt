@@ -27,7 +27,7 @@ pub data Reordered {A : Type 0} : List A → List A → Type 0 where
   exchange : {xs : List A} (x y : A) → Reordered (x ∷ y ∷ xs) (y ∷ x ∷ xs)
   again : {xs ys zs : List A} → Reordered xs ys → Reordered ys zs → Reordered xs zs
 
--- ---- the pieces
+-- The pieces.
 
 ok-reordered : {ps qs : List Piece} → Reordered ps qs → AllOk ps → AllOk qs
 ok-reordered alike a = a
@@ -64,7 +64,7 @@ bytes-reordered (exchange {xs = ps} p q) h =
     bytes-both (bytesOf q) (bytesOf p ++ flat ps) (bytes-left (bytesOf q) (flat ps) b) (bytes-both (bytesOf p) (flat ps) a (bytes-right (bytesOf q) (flat ps) b))
 bytes-reordered (again o u) h = bytes-reordered u (bytes-reordered o h)
 
--- ---- their packets
+-- Their packets.
 
 packets-behind : (p : Piece) (ps qs : List Piece) → Reordered (packets ps) (packets qs) → Reordered (packets (p ∷ ps)) (packets (p ∷ qs))
 unfolding packets
@@ -132,7 +132,7 @@ find-reordered c (exchange {xs = ps} p q) d =
     test (eqb c (p .code)) (λ t. let n : eqb c (q .code) ≡ false = rw (eqb-true c (p .code) t) (a .0) in rw (t, n) refl) (λ t. rw t refl)
 find-reordered c (again o u) d = find-reordered c o d ∙ find-reordered c u (distinct-reordered o d)
 
--- ---- the font
+-- The font.
 
 -- The same parts with other pieces.
 abbrev pub withPieces : Parts → List Piece → Parts

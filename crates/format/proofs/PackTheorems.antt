@@ -41,7 +41,7 @@ use Rattle.format.proofs.ByteLaws.{raster-are, packet-are, alone-are}
 true≢false : true ≡ false → ⊥
 true≢false e = let z : _≡_ {A = ℕ} 0 1 = cc in omega arith
 
--- ---- what is chosen
+-- What is chosen.
 
 -- f is at most 14, and 14 for no pixels.
 pub chosen-most : (w h : ℕ) (is : List Item) → chosen w h is ≤ 14
@@ -68,7 +68,7 @@ raster-few w h b is n =
 raster-small : (w h : ℕ) (b : List ℕ) (is : List Item) → length b ≡ w * h → w * h ≤ 65536 → length (rasterOf (chosen w h is) is b) ≤ 8192
 raster-small w h b is n l = omega (arith, raster-few w h b is n)
 
--- ---- the packet
+-- The packet.
 
 -- A packet with so few raster bytes has at most 8,229, in every form.
 packet-few : (p : Packet) → length (p .raster) ≤ 8192 → length (bytesOf (packet p)) ≤ 8229
@@ -133,7 +133,7 @@ packed-is b m room bytes e =
     subst (PackedOf b m) z
     (form-packed b m (r1 .0) (eqb-true (length b) (w * h) (t .0)) (t .1) (r3 .0) (g .0) p (g .2) (subst (λ (x : Packet). holds m x ≡ true) (sym (g .2)) (g .1 .held)))
 
--- ---- set alone in a font
+-- Set alone in a font.
 
 -- The parts of such a font.
 abbrev pub aloneIn : Preamble → Packet → ℕ → Parts
@@ -185,7 +185,7 @@ alone-ends b m bytes t a fine =
     let f = t .few in
     (pad, omega arith, omega arith, omega arith)
 
--- ---- the six ways in which packing answers, in 01's order
+-- The six ways in which packing answers, in 01's order.
 
 module _ (b : List ℕ) (m : Measures) (room : ℕ) where
   pub data Ways : Type 0 where
@@ -218,7 +218,7 @@ module _ (b : List ℕ) (m : Measures) (room : ℕ) where
           let z = first-fault m (choiceIn b m) x e in
           twenty l p c (none-exactly m (choiceIn b m) .0 (e ∙ ap fault z)) (rw (l, p, c, e, z) refl)
 
--- ---- what is packed, and what is refused with 20
+-- What is packed, and what is refused with 20.
 
 -- A bitmap and a code within the limits.
 module _ (b : List ℕ) (m : Measures) (room : ℕ) (l : withinLimits (m .w) (m .h) ≡ true) (n : length b ≡ natAbs (m .w) * natAbs (m .h)) (q : allPixels b ≡ true) (c : isCode (m .code) ≡ true) where
@@ -287,7 +287,7 @@ module _ (b : List ℕ) (m : Measures) (room : ℕ) (l : withinLimits (m .w) (m 
       back (seventeen x y u k g less z) never = let t = holds-says k (g .held) in absurd (never (choiceIn b m k) (t .0) (t .1))
       back (packs x y u k g fits z) never = let t = holds-says k (g .held) in absurd (never (choiceIn b m k) (t .0) (t .1))
 
--- ---- the round trip
+-- The round trip.
 
 -- The bytes come back as the bitmap b with the measures m: alone in a font behind the preamble, with an ending of at most three 246, they have a cut, and the code drawn there gives m and b.
 pub record Returns (b : List ℕ) (m : Measures) (bytes : List ℕ) (a : Preamble) : Type 0 where

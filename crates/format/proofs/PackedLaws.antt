@@ -14,7 +14,7 @@ use Rattle.format.specs.Packed.{nybbles, limit, hex, zerosF, zerosOf, la
 use Rattle.format.specs.Decoding.{Got, value, ends, mark, digits, zeros, shift, second, decode}
 use Rattle.format.proofs.Tests.{split}
 
--- ---- nybbles of bytes
+-- Nybbles of bytes.
 
 -- Each is a nybble.
 abbrev pub Nybbles : List ℕ → Type 0
@@ -33,7 +33,7 @@ unfolding nybbles
 bytes-nybbles [] h = tt
 bytes-nybbles (b ∷ s) h = let l = h .0 in (omega arith, (omega arith, bytes-nybbles s (h .1)))
 
--- ---- the equations of `large`
+-- The equations of `large`.
 
 -- Any bound from k on gives the same.
 enough : (g h k : ℕ) → k ≤ g → k ≤ h → zerosF g k ≡ zerosF h k
@@ -64,7 +64,7 @@ large-more k h =
     let z = zerosOf (k / 16) in
     rw (zeros-more k h, append-assoc (replicate z 0) (hex (suc z) (k / 16)) (k % 16 ∷ [])) refl
 
--- ---- what is written is read back
+-- What is written is read back.
 
 pub zeros-first : (z k : ℕ) (xs : List ℕ) → 0 < k → zeros z (k ∷ xs) ≡ digits z k xs
 unfolding zeros
@@ -106,7 +106,7 @@ prefix-free f n m x y hf hn hm e =
     let p : value n x ≡ value m y = sym (decode-encode f n x hf hn) ∙ ap (decode f) e ∙ decode-encode f m y hf hm in
     (cc, cc)
 
--- ---- whatever is read was so written
+-- Whatever is read was so written.
 
 ends≢ : {n : ℕ} {xs : List ℕ} → ends ≡ value n xs → ⊥
 ends≢ e = let z : _≡_ {A = ℕ} 0 1 = cc in omega arith
@@ -192,7 +192,7 @@ decode-written f (suc x ∷ xs) n rest hf s e =
         let g : (n - f - 1) % 16 ≡ b = omega arith in
         record { positive = omega arith; cut = rw (lt-leb n f (omega arith), le-leb n (limit f) (omega arith), d, g, c) refl }
 
--- ---- lengths
+-- Lengths.
 
 length-hex : (n k : ℕ) → length (hex n k) ≡ n
 unfolding hex
@@ -231,7 +231,7 @@ digits-behind (suc g) k p q =
 pub zeros-are : (k : ℕ) → 0 < k → (16 ^ zerosOf k ≤ k) × (k < 16 ^ suc (zerosOf k))
 zeros-are k p = digits-behind k k p (omega arith)
 
--- ---- what is written are nybbles
+-- What is written are nybbles.
 
 pub nybbles-join : (xs ys : List ℕ) → Nybbles xs → Nybbles ys → Nybbles (xs ++ ys)
 nybbles-join [] ys h k = k

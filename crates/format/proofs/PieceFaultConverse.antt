@@ -23,7 +23,7 @@ use Rattle.format.proofs.FieldLaws.{bytes-drop}
 use Rattle.format.proofs.OnwardLaws.{bytes-left}
 use Rattle.format.proofs.RasterFaultConverse.{raster-refused}
 
--- ---- 4 to 6
+-- 4 to 6.
 
 packet-step : (b : ℕ) (t : List ℕ) → b < 240 → step (b ∷ t) ≡ packetAt b (formOf b) (said b t) t
 unfolding step
@@ -62,7 +62,7 @@ unfolding step
 none-such b t l =
     rw (le-ltb b 240 (omega arith), le-ltb b 244 (omega arith), ne-eqb b 244 (λ e. omega arith), ne-eqb b 245 (λ e. omega arith), ne-eqb b 246 (λ e. omega arith)) refl
 
--- ---- 7 and 8, for a packet that stands there, with the raster bytes ys
+-- 7 and 8, for a packet that stands there, with the raster bytes ys.
 
 -- What is found if it is neither.
 abbrev found : ℕ → List ℕ → List ℕ → Result Front
@@ -102,7 +102,7 @@ coded-step b t ys w h c s =
     let l : isCode (said b t .code) ≡ true = rw (s .code) (s .range) in
     sized-step b t ys w h (s .sized) ∙ rw l refl
 
--- ---- 9 to 15
+-- 9 to 15.
 
 raster-part : (b : ℕ) (t ys : List ℕ) → Stands b t ys → Bytes t → Bytes ys
 raster-part b t ys st h =

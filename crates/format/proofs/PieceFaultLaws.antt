@@ -26,7 +26,7 @@ use Rattle.format.proofs.PieceLaws.{at-least, box-true, code-true}
 use Rattle.format.proofs.OnwardLaws.{raster-bytes}
 use Rattle.format.proofs.RasterFaultLaws.{items-fault}
 
--- ---- what stands at the front
+-- What stands at the front.
 
 -- The packet p stands at the front of the bytes.
 pub data Shown : List ℕ → Packet → Type 0 where
@@ -103,7 +103,7 @@ step-tells (b ∷ t) =
     let w = eqb-false b 246 e in
     noneSuch (omega arith)
 
--- ---- 9 to 13, for a packet that stands there
+-- 9 to 13, for a packet that stands there.
 
 packet-checked : (place : ℕ) (seen s : List ℕ) (p : Packet) → Shown s p → PacketOk p → Bytes (p .raster) → IfFault (PieceFault place seen s) (checked seen (p ∷ []))
 unfolding checked
@@ -122,7 +122,7 @@ checked-tells place seen s (numeric xs) r i o h = tt
 checked-tells place seen s noop r i o h = tt
 checked-tells place seen s (packet p) r i o h = packet-checked place seen s p i o (raster-bytes p r h)
 
--- ---- 14 and 15, at the 245
+-- 14 and 15, at the 245.
 
 nil-true : (xs : List ℕ) → isNil xs ≡ true → xs ≡ []
 unfolding isNil

@@ -22,7 +22,7 @@ use Rattle.format.proofs.Tests.{and-true, true-and}
 use Rattle.format.proofs.RefusalLaws.{need-case, cond-case}
 use Rattle.format.proofs.FieldLaws.{length-bytes, number-bytes, number-bound, bytes-number, Held, held-is, value-twos, twos-value, length-fields, read-fields, Wrote, fields-read}
 
--- ---- a packet as the reader sees it
+-- A packet as the reader sees it.
 
 abbrev headerIn : (k : Form) → Escapement k → Packet → ℕ → Header
 headerIn k e p n =
@@ -67,7 +67,7 @@ flag-apart f low true h =
 flag-apart f low false h =
     record { f = omega arith; low = omega arith; black = ne-eqb ((16 * f + 0 + low) / 8 % 2) 1 (λ q. omega arith) }
 
--- ---- what is a piece is found
+-- What is a piece is found.
 
 -- The form of a packet that 01 allows holds its length, and its fields.
 fits-length : (p : Packet) → PacketOk p → packetLength p < lengthTop (p .form)
@@ -165,7 +165,7 @@ step-piece (packet p) r o =
     rw (lt-ltb (flag p) 240 (flag-below p o), flag-form p o, append-assoc (fieldBytes (kinds (p .form)) (fields p)) (p .raster) r)
     (packet-found p (flag p) r o e)
 
--- ---- a piece that is found is what stands there
+-- A piece that is found is what stands there.
 
 pub record Found (s : List ℕ) (p : Piece) (r : List ℕ) : Type 0 where
   pub whole : s ≡ bytesOf p ++ r

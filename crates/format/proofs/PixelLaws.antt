@@ -21,7 +21,7 @@ use Rattle.format.proofs.BitLaws.{bits-read}
 use Rattle.format.proofs.FillLaws.{limited, items-draws}
 use Rattle.format.proofs.ReadingTheorems.{raster-read}
 
--- ---- computed and drawn
+-- Computed and drawn.
 
 -- No pixels, whatever the bytes are.
 pub none-drawn : (f : ℕ) (black : Bool) (h : ℕ) (bytes : List ℕ) → rasterPixels f black 0 h bytes ≡ []
@@ -57,7 +57,7 @@ pixels-draw f black w h bytes is hf l b e =
     let t = items-draws f black w h bytes is hf l b e in
     subst (Draws f black w h bytes) (draws-pixels f black w h bytes (t .0) l (t .1)) (t .1)
 
--- ---- how many there are
+-- How many there are.
 
 -- Each row is w wide.
 abbrev Wide : ℕ → List (List ℕ) → Type 0
@@ -92,7 +92,7 @@ draws-size f black w h bytes drawn (blank p g q r) = rw (p, g, r) refl
 draws-size f black w h bytes drawn (inBits p g x) = x .size
 draws-size f black w h bytes drawn (inRuns p g x) = picture-size f w h (colour black) bytes drawn x
 
--- ---- what they are
+-- What they are.
 
 -- Each is 0 or 1: of lists joined and cut,
 pixels-append : (xs ys : List ℕ) → allPixels xs ≡ true → allPixels ys ≡ true → allPixels (xs ++ ys) ≡ true

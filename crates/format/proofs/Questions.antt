@@ -111,7 +111,7 @@ reply (packLeaves m b buffer) = list (packBuffer b m buffer)
 abbrev pub Given : List (Question × Reply) → Type 0
 Given es = map (λ (e : Question × Reply). reply (e .0)) es ≡ map (λ (e : Question × Reply). e .1) es
 
--- ---- fonts and measures to ask about
+-- Fonts and measures to ask about.
 
 -- The preamble of 01's listing.
 abbrev pub preamble : List ℕ

@@ -19,7 +19,7 @@ use Rattle.format.proofs.ItemLaws.{Free, fault≢, had-once, item-read,
 use Rattle.format.proofs.ReadingLaws.{walk-full, walk-next, walk-none, nybs-rest}
 use Rattle.format.proofs.RasterFaultLaws.{item-fault, item-first, shorter}
 
--- ---- the item at the front
+-- The item at the front.
 
 free-allowed : (i : Item) (s : State) → Allowed i s → Free (s .repeat) i
 free-allowed (run n) s a = omega (arith, had-once (s .repeat))
@@ -68,7 +68,7 @@ module _ (f w h : ℕ) (hf : f ≤ 13) where
       go (ok (i, rest)) e q = absurd (no-first s xs i rest u (item-first f w h hf s xs i rest n e))
       go (fault x) e q = ap fault (only x q)
 
-  -- ---- a turn, and all of them
+  -- A turn, and all of them.
 
   over-after : (i : Item) (s : State) → Over w h i s → afterItem w h i s ≡ fault tooMany
   unfolding afterItem afterRun afterRepeat
@@ -108,7 +108,7 @@ module _ (f w h : ℕ) (hf : f ≤ 13) where
       let u′ : length rest ≤ g = omega (arith, shorter f w h hf i xs rest (a .number) (a .nybbles)) in
       walk-next g f w h s xs l ∙ rw (first-item s xs i rest a, m, lead-walk g v rest t ys x n′ u′ k e) refl
 
--- ---- any raster
+-- Any raster.
 
 items-wide : (f w h : ℕ) (bytes : List ℕ) → 0 < w → items f w h bytes ≡ cond (eqb f 14) (bitsRead (w * h) (bytesOfBits (w * h)) bytes) (reading f w h bytes)
 unfolding items

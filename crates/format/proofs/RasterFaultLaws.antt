@@ -25,7 +25,7 @@ use Rattle.format.proofs.ReadingLaws.{walk-full, walk-next, walk-none, 
 use Rattle.format.proofs.ReadingTheorems.{enough}
 use Rattle.format.proofs.FillLaws.{limits-none}
 
--- ---- an unfinished number, and a 14 or 15 where one must begin
+-- An unfinished number, and a 14 or 15 where one must begin.
 
 -- Some more nybbles bring `read` to the end of a number.
 record Lacks (read : List ℕ → Got) : Type 0 where
@@ -90,7 +90,7 @@ decode-says f (suc a ∷ xs) =
 begun : (f : ℕ) (xs : List ℕ) → f ≤ 13 → Nybbles xs → (i : Lacks (λ ys. decode f (xs ++ ys))) → Written f (xs ++ i .lacking) (i .n) []
 begun f xs hf b i = decode-written f (xs ++ i .lacking) (i .n) [] hf (nybbles-join xs (i .lacking) b (i .nybs)) (i .reads)
 
--- ---- where the items end
+-- Where the items end.
 
 module _ (f w h : ℕ) (hf : f ≤ 13) where
   unfinished-run : (s : State) (xs : List ℕ) → Nybbles xs → Lacks (λ ys. decode f (xs ++ ys)) → Unfinished f s xs
@@ -189,7 +189,7 @@ module _ (f w h : ℕ) (hf : f ≤ 13) where
   finish-fault s (zero ∷ x ∷ xs) l = left l (λ e. let z : _≡_ {A = ℕ} 0 1 = cc in omega arith) (λ e. let z : _≡_ {A = ℕ} 0 1 = cc in omega arith)
   finish-fault s (suc x ∷ xs) l = left l (λ e. let z : _≡_ {A = ℕ} 0 1 = cc in omega arith) (λ e. let z : suc x ≡ 0 = cc in omega arith)
 
-  -- ---- all items
+  -- All items.
 
   -- Items in order lead from the state s and the nybbles xs to the fault x.
   record Stops (s : State) (xs : List ℕ) (x : Refusal) : Type 0 where
@@ -242,7 +242,7 @@ module _ (f w h : ℕ) (hf : f ≤ 13) where
       bind-fault (Stops s xs) (walk g f w h (t .1) (t .2)) _
       (fault-to (walk g f w h (t .1) (t .2)) (λ x. stops-later s xs t x l v) (walk-stops g (t .1) (t .2) (v .nybs) (omega (arith, v .less)))) (λ is q. tt))))
 
--- ---- any raster
+-- Any raster.
 
 runs-fault : (f w h : ℕ) (bytes : List ℕ) → 0 < w → f ≤ 13 → Bytes bytes → IfFault (RasterFault f w h bytes) (reading f w h bytes)
 unfolding reading

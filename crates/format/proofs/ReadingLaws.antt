@@ -18,7 +18,7 @@ use Rattle.format.proofs.Tests.{split}
 use Rattle.format.proofs.RowLaws.{from, grid-none}
 use Rattle.format.proofs.StateLaws.{At, behind-is, ends-off, ends-on, col-in, Inside, inside-run, run-off, run-on, run-fits, repeat-off, repeat-on}
 
--- ---- one turn of the walk
+-- One turn of the walk.
 
 pub walk-full : (g f w h : ℕ) (s : State) (xs : List ℕ) → h ≤ s .row → walk g f w h s xs ≡ finish xs
 unfolding walk
@@ -62,7 +62,7 @@ pub free-none : (rep : ℕ) → 1 + length (had rep) ≤ 1 → rep ≡ 0
 free-none zero l = refl
 free-none (suc rep) l = absurd (omega arith)
 
--- ---- each raster is read whole
+-- Each raster is read whole.
 
 rows-none : (w k : ℕ) → k * w < w → k ≡ 0
 rows-none w zero l = refl
@@ -104,7 +104,7 @@ module _ (f w h : ℕ) (hf : f ≤ 13) (pos : 0 < w) where
       (again-ok h 1 s (t .2))
       (complete is g (withRepeat 1 s) pre c rest l (nu .1) (t .3) (omega arith) e)
 
-  -- ---- what is read whole is a raster
+  -- What is read whole is a raster.
 
   -- the nybbles xs, from the state s on, are the items and what ends them
   pub record Read (s : State) (pre : List ℕ) (c : ℕ) (xs : List ℕ) (is : List Item) : Type 0 where

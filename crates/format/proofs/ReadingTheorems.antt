@@ -22,7 +22,7 @@ use Rattle.format.proofs.ReadingLaws.{at-end, complete, sound}
 use Rattle.format.proofs.RowLaws.{from-start}
 use Rattle.format.proofs.StateLaws.{At, col-in, ends-off, run-off, repeat-off}
 
--- ---- bytes and their nybbles
+-- Bytes and their nybbles.
 
 finish-spare : (n : ℕ) → finish (spare n) ≡ ok []
 unfolding finish spare
@@ -51,7 +51,7 @@ enough f (run n ∷ is) hf nu = omega (arith, enough f is hf (nu .1), some f n h
 enough f (fourteen n ∷ is) hf nu = omega (arith, enough f is hf (nu .1), length-append (encode f n) (writings f is))
 enough f (fifteen ∷ is) hf nu = omega (arith, enough f is hf (nu .1))
 
--- ---- every repeat is directly followed by a run
+-- Every repeat is directly followed by a run.
 
 abbrev pub RunNext : List Item → Type 0
 RunNext [] = ⊥

@@ -62,7 +62,7 @@ module _ (w k : ℕ) (of : ℕ → List ℕ) (row s : List ℕ) (e : length row 
         high = omega (arith, g .high, sent-length);
       }
 
--- ---- the repeats that items give
+-- The repeats that items give.
 
 eqb-suc : (a b : ℕ) → eqb (a + 1) (suc b) ≡ eqb a b
 eqb-suc a b = rw (add-one, eqb·suc-suc) refl

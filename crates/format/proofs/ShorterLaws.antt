@@ -61,7 +61,7 @@ step-less (b ∷ s) =
     cond-case P (eqb b 245) _ _ (λ _. ended) λ _.
     cond-case P (eqb b 246) _ _ (λ _. to (omega arith)) λ _. none
 
--- ---- the equation of `onward`, without a bound
+-- The equation of `onward`, without a bound.
 
 module _ (a : Preamble) where
   -- `next` asks `go` only of shorter lists.

@@ -15,7 +15,7 @@ use Rattle.format.proofs.Tests.{and-true, true-and}
 use Rattle.format.proofs.PieceLaws.{fits-fields}
 use Rattle.format.proofs.FormLaws.{holds-for}
 
--- ---- two bytes hold what one holds
+-- Two bytes hold what one holds.
 
 wider : (n : ℕ) → held (unsigned 1) (pos n) ≡ true → held (unsigned 2) (pos n) ≡ true
 unfolding held

@@ -25,7 +25,7 @@ grid-to : {w h h′ k : ℕ} {of of′ : ℕ → List ℕ} {s s′ : List ℕ} �
 grid-to {w} {h} {h′} {k} {of} {of′} {s} {s′} p q r g =
     subst (λ (x : ℕ). Grid w x k of′ s′) p (subst (λ (x : ℕ → List ℕ). Grid w h k x s′) q (subst (λ (x : List ℕ). Grid w h k of x) r g))
 
--- ---- row ends
+-- Row ends.
 
 module _ (w p rep k : ℕ) (is : List Item) (row s : List ℕ) (e : length row ≡ w) (pos : 0 < w) where
   end-off : {h : ℕ} → Grid w h (suc k) (from w (w + p) rep is) (row ++ s) → Grid w (h - suc rep) k (from w p 0 is) s
@@ -102,7 +102,7 @@ module _ (w h : ℕ) (pos : 0 < w) where
   ends-on (suc q) s pre c is l e a =
       at-on s pre c is (omega arith) e (ends-on q (rowEnd w s) (drop w pre) c is (omega arith) (rw length-drop (omega arith)) a)
 
-  -- ---- runs
+  -- Runs.
 
   module _ (s : State) (pre : List ℕ) (c n : ℕ) (is : List Item) where
     run-cut : pre ++ string c (run n ∷ is) ≡ (pre ++ replicate n c) ++ string (1 - c) is
@@ -146,7 +146,7 @@ module _ (w h : ℕ) (pos : 0 < w) where
             let m = mul-le-mul-right {m = k} {n = suc (h - s .row - s .repeat - 1)} w (omega arith) in
             (omega arith, omega (arith, m, some))
 
-  -- ---- repeats
+  -- Repeats.
 
   module _ (s : State) (pre : List ℕ) (c n : ℕ) (i : Item) (is : List Item) (l : s .column < w) (p : 0 < n) (e0 : pixelsIn i ≡ 0) (e1 : repeat i ≡ n ∷ []) (e2 : turned c i ≡ c) where
     same : string c (i ∷ is) ≡ string c is
@@ -171,7 +171,7 @@ module _ (w h : ℕ) (pos : 0 < w) where
         let f2 = from-least w (s .column) n is in
         (z, omega arith, omega arith, record { k = a .k; low = a .low; pre-is = a .pre-is; grid = g })
 
-  -- ---- the states that a reading meets
+  -- The states that a reading meets.
 
   pub col-in : (s : State) (n : ℕ) → (rowEnds w ((s .column + n) / w) (advanced n s)) .column < w
   col-in s n = omega (arith, ends-col w ((s .column + n) / w) (advanced n s), div-add-mod' (s .column + n) w, mod-lt (s .column + n) pos)

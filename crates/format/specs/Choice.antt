@@ -12,7 +12,7 @@ use Rattle.format.specs.Measures.{wholePixels, sameScaled, Measures}
 use Rattle.format.specs.Pieces.{Form, short, extended, long, Escapement, Packet, fits, measures}
 use Rattle.format.specs.Rasters.{Item, writings, bytesOfBits}
 
--- ---- f
+-- f.
 
 -- The nybbles over a count list, for f.
 unfoldable pub nybbleCount : List Item → ℕ → ℕ
@@ -39,7 +39,7 @@ chosen w h is =
     cond (eqb w 0) 14
     (cond (ltb (bytesOfBits (w * h)) ((nybbleCount is (fewest is) + 1) / 2)) 14 (fewest is))
 
--- ---- the raster
+-- The raster.
 
 -- The bytes of nybbles, high half first, a spare half zero.
 unfoldable pub halves : List ℕ → List ℕ
@@ -66,7 +66,7 @@ rasterOf f is b = cond (eqb f 14) (bitBytes (bytesOfBits (length b)) b) (halves 
 unfoldable pub firstBlack : ℕ → List ℕ → Bool
 firstBlack f b = cond (eqb f 14) false (eqb (getD b 0 0) 1)
 
--- ---- the form
+-- The form.
 
 -- The escapement as the form k would say it.
 abbrev pub escapementIn : (k : Form) → Measures → Escapement k

@@ -7,7 +7,7 @@ use lib.Dec.{eqb}
 use Rattle.format.specs.Lists.{all, same}
 use Rattle.format.specs.Rasters.{Item, run, fourteen, fifteen}
 
--- ---- rows kept
+-- Rows kept.
 
 -- Neither all black nor all white.
 unfoldable pub mixed : List ℕ → Bool
@@ -27,7 +27,7 @@ unfoldable pub kept : List (List ℕ) → List Kept
 kept [] = []
 kept (r ∷ rs) = above r (kept rs)
 
--- ---- the joined string
+-- The joined string.
 
 -- A pixel of the joined string, and the repeat that stands before it, 0 for none.
 pub data Pixel : Type 0 where
@@ -48,7 +48,7 @@ unfoldable pub strung : ℕ → List Kept → List Pixel
 strung p [] = []
 strung p (row r n ∷ ks) = placed p n r ++ strung (lastOf p r) ks
 
--- ---- runs and repeats
+-- Runs and repeats.
 
 -- A run: its colour, its length, and the repeat that stands before it, 0 for none.
 pub data Run : Type 0 where

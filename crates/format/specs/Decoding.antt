@@ -9,7 +9,7 @@ use lib.ListN.{drop}
 use Rattle.format.specs.Numbers.{Kind, unsigned, signed, width, Values}
 use Rattle.format.specs.Packed.{limit}
 
--- ---- many-byte numbers
+-- Many-byte numbers.
 
 -- The number that the first k bytes are.
 unfoldable pub number : ℕ → List ℕ → ℕ
@@ -27,7 +27,7 @@ unfoldable pub readFields : (ks : List Kind) → List ℕ → Values ks
 readFields [] s = tt
 readFields (k ∷ ks) s = (valueOf k (number (width k) s), readFields ks (drop (width k) s))
 
--- ---- packed numbers
+-- Packed numbers.
 
 -- A number and the nybbles after it; that the nybbles end inside it; a 14 or 15 where it must begin.
 pub data Got : Type 0 where

@@ -21,7 +21,7 @@ use Rattle.format.specs.Decoding.{number, valueOf, readFields}
 use Rattle.format.specs.Reading.{State, start, pixelsLeft, afterItem}
 use Rattle.format.specs.Verdict.{atLeast, formOf, Header, header}
 
--- ---- a packet at the front
+-- A packet at the front.
 
 -- What the fixed fields behind a flag b say.
 abbrev pub said : ℕ → List ℕ → Header
@@ -48,7 +48,7 @@ pub record Coded (b : ℕ) (t raster : List ℕ) (w h c : ℕ) : Type 0 where
   pub code : said b t .code ≡ pos c
   pub range : isCode (pos c) ≡ true
 
--- ---- 4: file ends inside a piece, or where a piece must begin
+-- 4: file ends inside a piece, or where a piece must begin.
 
 pub data Ends : List ℕ → Type 0 where
   -- where a piece must begin
@@ -63,7 +63,7 @@ pub data Ends : List ℕ → Type 0 where
       → length t < k + n → Ends (b ∷ t)
   inFour : {t : List ℕ} → length t < 4 → Ends (244 ∷ t)
 
--- ---- 6: command length negative; packet length negative or below its own fixed fields
+-- 6: command length negative; packet length negative or below its own fixed fields.
 
 pub data BadLength : List ℕ → Type 0 where
   -- a command's is negative
@@ -71,7 +71,7 @@ pub data BadLength : List ℕ → Type 0 where
   -- a packet's is negative, or below its own fixed fields
   ofPacket : {b : ℕ} {t : List ℕ} → b < 240 → size (kinds (formOf b)) ≤ length t → atLeast (fixed (formOf b)) (said b t .length) ≡ false → BadLength (b ∷ t)
 
--- ---- 10 to 13: the raster
+-- 10 to 13: the raster.
 
 -- A row that has had a repeat has no other.
 abbrev pub Allowed : Item → State → Type 0
@@ -133,7 +133,7 @@ pub data RasterFault (f w h : ℕ) (bytes : List ℕ) : Refusal → Type 0 where
   -- 13: raster bytes left over, where w = h = 0
   noneWanted : w ≡ 0 → h ≡ 0 → 0 < length bytes → RasterFault f w h bytes leftOver
 
--- ---- the piece at a place
+-- The piece at a place.
 
 -- The bytes s from a place on, behind packets with these codes, are at fault. A packet's 7, 8, 9 and raster faults come in that order,
 -- and at the 245 comes 15 before 14.
@@ -158,7 +158,7 @@ pub data PieceFault (place : ℕ) (seen : List ℕ) : List ℕ → Refusal → T
   -- 14: after 245 a byte other than 246, or file length no multiple of four
   badEnd : {t : List ℕ} → (seen ≡ [] → ⊥) → (all 246 t ≡ false) ⊎ ((place + 1 + length t) % 4 ≡ 0 → ⊥) → PieceFault place seen (245 ∷ t) badEnding
 
--- ---- the font
+-- The font.
 
 -- The preamble is cut short.
 pub data PreambleEnds : List ℕ → Type 0 where

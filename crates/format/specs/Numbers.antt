@@ -17,7 +17,7 @@ unfoldable pub bytes : ℕ → ℕ → List ℕ
 bytes zero n = []
 bytes (suc k) n = n / 256 ^ k ∷ bytes k (n % 256 ^ k)
 
--- ---- fields
+-- Fields.
 
 -- A field of k bytes: unsigned, 01's name[k], or signed, 01's name[+k] and every name[4].
 pub data Kind : Type 0 where
@@ -41,7 +41,7 @@ unfoldable pub twos : ℕ → ℤ → ℕ
 twos k (pos n) = n
 twos k (negsuc n) = 256 ^ k - suc n
 
--- ---- fields in a row
+-- Fields in a row.
 
 -- A value for each field.
 abbrev pub Values : List Kind → Type 0

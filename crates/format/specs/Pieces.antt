@@ -11,7 +11,7 @@ use Rattle.format.specs.Limits.{inLimits, isCode}
 use Rattle.format.specs.Numbers.{bytes, Kind, unsigned, signed, held, Values, allHeld, fieldBytes}
 use Rattle.format.specs.Measures.{Pixels, pixels, Scaled, scaled, toScaled, Measures}
 
--- ---- preamble
+-- Preamble.
 
 -- A comment and four numbers.
 pub record Preamble : Type 0 where
@@ -38,7 +38,7 @@ pub record PreambleOk (a : Preamble) : Type 0 where
   pub comment : length (a .comment) < 256
   pub fields : allHeld preambleKinds (preambleValues a) ≡ true
 
--- ---- the three forms
+-- The three forms.
 
 -- flag mod 8 picks the form.
 pub data Form : Type 0 where
@@ -85,7 +85,7 @@ lengthTop short = 4 * 256
 lengthTop extended = 3 * 65536
 lengthTop long = 2147483648
 
--- ---- packets
+-- Packets.
 
 -- What a packet says: f, the black bit, the form, the fixed fields, and the raster bytes.
 pub record Packet : Type 0 where
@@ -164,7 +164,7 @@ measures p =
       voff = p .voff;
     }
 
--- ---- pieces
+-- Pieces.
 
 pub data Piece : Type 0 where
   -- 240 to 243: a length in k = 1 to 4 bytes, then that many bytes

@@ -8,7 +8,7 @@ use lib.Dec.{eqb}
 use lib.ListN.{length, take, drop, replicate}
 use Rattle.format.specs.Packed.{nybbles, encode}
 
--- ---- nybbles as items
+-- Nybbles as items.
 
 -- A run of n, a packed number; 14 and a packed number n, a repeat of n; 15, a repeat of 1.
 pub data Item : Type 0 where
@@ -40,7 +40,7 @@ AllNumbers (i ∷ is) = Number i × AllNumbers is
 unfoldable pub spare : ℕ → List ℕ
 spare n = cond (eqb (n % 2) 1) (0 ∷ []) []
 
--- ---- items as rows of pixels, 0 white and 1 black
+-- Items as rows of pixels, 0 white and 1 black.
 
 -- The pixels of an item, its repeat if it is one, and the colour after it: runs change colour each time.
 abbrev pub pixelsIn : Item → ℕ
@@ -110,7 +110,7 @@ pub record RunRaster (f w h black : ℕ) (bytes drawn : List ℕ) : Type 0 where
   pub grid : Grid w h k (repeats w 0 items) (string black items)
   pub drawn-is : drawn ≡ picture w black k items
 
--- ---- bits
+-- Bits.
 
 -- The bits of a byte, and of bytes, most significant first.
 unfoldable pub bitsOf : ℕ → List ℕ
@@ -131,7 +131,7 @@ pub record BitRaster (w h : ℕ) (bytes drawn : List ℕ) : Type 0 where
   pub few : spare < 8
   pub bits-are : bits bytes ≡ drawn ++ replicate spare 0
 
--- ---- any raster
+-- Any raster.
 
 -- A pixel's colour: 0 white, 1 black.
 abbrev pub colour : Bool → ℕ

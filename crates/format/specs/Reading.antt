@@ -11,7 +11,7 @@ use Rattle.format.specs.Packed.{nybbles}
 use Rattle.format.specs.Decoding.{Got, value, ends, mark, decode}
 use Rattle.format.specs.Rasters.{Item, run, fourteen, fifteen, bits, bytesOfBits}
 
--- ---- one item
+-- One item.
 
 -- A packed number is read whole: 10 where the nybbles end. A 14 or 15 where it must begin is 12.
 unfoldable pub numberOf : Got → Result (ℕ × List ℕ)
@@ -36,7 +36,7 @@ unfoldable pub itemOf : ℕ → ℕ → List ℕ → Result (Item × List ℕ)
 itemOf f rep [] = fault rasterEnds
 itemOf f rep (x ∷ xs) = cond (ltb x 14) (runAt f (x ∷ xs)) (cond (ltb 0 rep) (fault secondRepeat) (repeatAt f x xs))
 
--- ---- where it leads
+-- Where it leads.
 
 -- The column and the row that come next, and the repeat that the row has had: 0 for none.
 pub record State : Type 0 where
@@ -82,7 +82,7 @@ afterItem w h (run n) s = afterRun w h n s
 afterItem w h (fourteen n) s = afterRepeat h n s
 afterItem w h fifteen s = afterRepeat h 1 s
 
--- ---- all items
+-- All items.
 
 -- Reading stops when h rows are full: nothing is left, or the spare nybble, zero.
 unfoldable pub finish : List ℕ → Result (List Item)

@@ -27,7 +27,7 @@ unfoldable pub atLeast : ℕ → ℤ → Bool
 atLeast m (pos n) = leb m n
 atLeast m (negsuc n) = false
 
--- ---- a packet
+-- A packet.
 
 -- flag mod 8 picks the form: 0 to 3 short, 4 to 6 extended, 7 long.
 unfoldable pub formOf : ℕ → Form
@@ -86,7 +86,7 @@ packetAt b k x s = do
   _ ← need (atLeast (fixed k) (x .length)) badLength
   rasterAt b x (natAbs (x .length) - fixed k) (drop (size (kinds k)) s)
 
--- ---- a command
+-- A command.
 
 -- 240 to 243, behind that byte, where the k bytes of its length say z: length field whole (4), length not negative (6), body whole (4).
 unfoldable pub specialAt : ℕ → ℤ → List ℕ → Result Front
@@ -102,7 +102,7 @@ numericAt s = do
   _ ← need (leb 4 (length s)) fileEnds
   ok (piece (numeric (take 4 s)) (drop 4 s))
 
--- ---- a piece
+-- A piece.
 
 -- 4 where the file ends and a piece must begin, and 5 for 247 to 255.
 unfoldable pub step : List ℕ → Result Front
@@ -120,7 +120,7 @@ checked seen (p ∷ ps) = do
   _ ← need (not (elem (p .code) seen)) codeTwice
   items (p .f) (p .w) (p .h) (p .raster)
 
--- ---- a font
+-- A font.
 
 -- A fault at a place, or else x.
 unfoldable pub orElse : {A : Type 0} → ℕ → Result A → Answer Parts → Answer Parts

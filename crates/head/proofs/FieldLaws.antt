@@ -14,7 +14,7 @@ use Rattle.head.specs.Head.{numbers, total, Fit, narrowWidths}
 pow-pos : (k : ℕ) → 0 < 256 ^ k
 pow-pos k = one-le-pow k 256 (omega arith)
 
--- ---- one number
+-- One number.
 
 -- The j bytes of m from i on are what is left.
 pub record Left (l : List ℕ) (at k n : ℕ) (d : List ℕ) (top m i j : ℕ) : Type 0 where
@@ -60,7 +60,7 @@ pub left-end : {l : List ℕ} {at k n : ℕ} {d : List ℕ} {top m i j : ℕ} �
 unfolding bytes
 left-end a h = (omega (arith, a .place), sym (a .is ∙ rw h refl))
 
--- ---- fields
+-- Fields.
 
 -- What is set in two goes is set in one.
 sets-append : (a b l : List ℕ) (i : ℕ) → sets (sets l i a) (i + length a) b ≡ sets l i (a ++ b)
@@ -150,7 +150,7 @@ head-put l d flag ks vs h f g =
     let e : 0 + suc (length (numbers ks vs)) ≡ 1 + total ks = omega arith in
     (g .0, g .1 ∙ sets-eq (flag ∷ numbers ks vs) l 0 (omega arith) ∙ ap (λ (x : ℕ). (flag ∷ numbers ks vs) ++ drop x l) e)
 
--- ---- the short form
+-- The short form.
 
 -- A number in no bytes, in one and in three.
 bytes-none : (n : ℕ) → bytes 0 n ≡ []

@@ -28,14 +28,14 @@ use Rattle.pick.proofs.PickLaws.{Small, small, short-is, extended-is, long-is, 
 use Rattle.sign.proofs.SignLaws.{in-bits}
 use Rattle.head.specs.Head.{headOf, headFor, headLength, numbers, total, Fit, narrowWidths, narrowValues, longValues, ScaledBelow, Ready}
 
--- ---- the head of a packet before n raster bytes
+-- The head of a packet before n raster bytes.
 
 head-of : (f : ℕ) (black : Bool) (m : F.Measures) (n : ℕ) (k : Form)
     → headOf (inForm f black m (replicate n 0) k) ≡ (16 * f + blackBit black + formBits k (fixed k + n)) ∷ fieldBytes (kinds k) (valuesFor m n k)
 unfolding headOf flag inForm
 head-of f black m n k = rw (values-for f black m (replicate n 0) k, length-replicate {A = ℕ} n 0) refl
 
--- ---- what a form that holds says
+-- What a form that holds says.
 
 -- The length is held, and every field.
 fields-held : (m : F.Measures) (n : ℕ) (k : Form) → holds m (tried m n k) ≡ true → (fixed k + n < lengthTop k) × (allHeld (kinds k) (valuesFor m n k) ≡ true)
@@ -60,7 +60,7 @@ signed-held k z e = go z (held-is (signed k) z e)
     go (pos n) h = omega arith
     go (negsuc n) h = omega arith
 
--- ---- the first two forms, of k = 1 and k = 2
+-- The first two forms, of k = 1 and k = 2.
 
 -- Their kinds, and their values for dm pixels and the length n in its field.
 abbrev narrowKinds : ℕ → List Kind
@@ -168,7 +168,7 @@ module _ (l : List ℕ) (f n dm : ℕ) (m : F.Measures) (e : F.pixels dm ≡ F.w
 pub short-flag : (l : List ℕ) (f n : ℕ) (m : F.Measures) → Ready l f m n short → (8 + n) / 256 < 8
 short-flag l f n m r = let x = fields-held m n short (r .held) .0 in omega arith
 
--- ---- the long form
+-- The long form.
 
 -- Its widths.
 abbrev pub longWidths : List ℕ
@@ -223,7 +223,7 @@ long-ok l f n m r =
     let x = fields-held m n long (r .held) in
     long-go m n (m .dx) (m .dy) refl refl (x .0) (small m (r .judged)) (x .1)
 
--- ---- what was written
+-- What was written.
 
 -- The flag and the numbers are the head, if the numbers' bytes are the fields'.
 wrote : (f : ℕ) (black : Bool) (m : F.Measures) (n : ℕ) (k : Form) (ks vs l d : List ℕ) {r b : ℕ} → fieldBytes (kinds k) (valuesFor m n k) ≡ numbers ks vs
@@ -257,7 +257,7 @@ module _ (f : ℕ) (black : Bool) (n : ℕ) (m : F.Measures) (l d : List ℕ) {v
   wrote-long o ev eb g =
       wrote f black m n long longWidths vs l d (long-ok l f n m o .is ∙ ap (numbers longWidths) (sym ev)) eb g
 
--- ---- the form picked
+-- The form picked.
 
 ready : (l : List ℕ) (f : ℕ) (m : F.Measures) (n : ℕ) (k : Form) → f ≤ 14 → n ≤ 8192 → Judged m → 1 + size (kinds k) ≤ length l
     → firstForm m (tried m n) ≡ ok (tried m n k) → Ready l f m n k

@@ -17,7 +17,7 @@ use Rattle.measures.specs.declared.Measures.{Measures}
 use Rattle.sign.proofs.SignLaws.{at64, wider}
 use Rattle.head.specs.Head.{narrowValues, longValues}
 
--- ---- two's complement
+-- Two's complement.
 
 pub twos-room : (k : ℕ) (z : ℤ) {top r : ℕ} → top ≡ 256 ^ k → r ≡ mag z → mag z < 256 ^ k → r ≤ top - 1
 twos-room k z e q h = omega arith
@@ -30,7 +30,7 @@ pub twos-above : (k : ℕ) (z : ℤ) {r : ℕ} → r ≡ mag z → z ≡ pos (ma
 unfolding twos
 twos-above k z {r} q s = subst (λ (y : ℤ). r ≡ twos k y) (sym s) q
 
--- ---- an offset of fewer bits
+-- An offset of fewer bits.
 
 -- As the machine widens it, it is the same number, and below the same bound.
 pub offset : (w : Width) (x z : ℤ) (top : ℕ) → SFits w x → mag x < 9223372036854775808 → x ≡ z → mag z < top → (mag (at64 (toZ w (ofZ w x))) < top) × (at64 (toZ w (ofZ w x)) ≡ z)
@@ -38,7 +38,7 @@ offset w x z top f l e h =
     let p : at64 (toZ w (ofZ w x)) ≡ z = wider w x f l ∙ e in
     (subst (λ (y : ℤ). mag y < top) (sym p) h, p)
 
--- ---- flags
+-- Flags.
 
 pub flag-black : (f k : ℕ) {black : Bool} → black ≡ true → f ≤ 14 → k < 8 → (16 * f + 8 + k ≡ 16 * f + blackBit black + k) × (16 * f + 8 + k < 256)
 flag-black f k e h g = (rw e refl, omega arith)
@@ -46,7 +46,7 @@ flag-black f k e h g = (rw e refl, omega arith)
 pub flag-white : (f k : ℕ) {black : Bool} → black ≡ false → f ≤ 14 → k < 8 → (16 * f + k ≡ 16 * f + blackBit black + k) × (16 * f + k < 256)
 flag-white f k e h g = (rw e (omega arith), omega arith)
 
--- ---- all numbers; a magnitude is taken of a number as the machine reads it back
+-- All numbers; a magnitude is taken of a number as the machine reads it back.
 
 pub narrow-all : (k : ℕ) (m : Measures) (dm : Pixels) (n : ℕ) {c t w h x y : ℕ}
     → at64 (m .code) ≡ m .code → at64 (m .tfm) ≡ m .tfm → at64 (m .w) ≡ m .w → at64 (m .h) ≡ m .h

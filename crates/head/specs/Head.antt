@@ -13,7 +13,7 @@ use Rattle.pick.specs.Picks.{Judged, tried}
 use Rattle.pick.specs.declared.Picked.{Picked}
 use Rattle.pick.specs.declared.Picked.the-variants.{Short, Extended, Long, Nothing}
 
--- ---- a packet's head
+-- A packet's head.
 
 -- The bytes of a packet before its raster.
 unfoldable pub headOf : Packet → List ℕ
@@ -33,7 +33,7 @@ headLength (Extended dm x y) = 17
 headLength (Long x y) = 37
 headLength Nothing = 0
 
--- ---- numbers in a row
+-- Numbers in a row.
 
 -- Numbers, each in its own number of bytes.
 unfoldable pub numbers : List ℕ → List ℕ → List ℕ
@@ -53,7 +53,7 @@ Fit [] (v ∷ vs) = ⊥
 Fit (k ∷ ks) [] = ⊥
 Fit (k ∷ ks) (v ∷ vs) = (k ≤ 4) × (v < 256 ^ k) × Fit ks vs
 
--- ---- the numbers of the three forms
+-- The numbers of the three forms.
 
 -- The widths of a short packet, of k = 1, or of an extended one, of k = 2; dy has no bytes.
 abbrev pub narrowWidths : ℕ → List ℕ

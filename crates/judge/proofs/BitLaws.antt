@@ -19,7 +19,7 @@ use Rattle.refusals.specs.Names.{coded}
 use Rattle.judge.specs.Judgement.{judged}
 use Rattle.judge.specs.declared.Judged.the-variants.{Whole, Fault}
 
--- ---- the powers of 2
+-- The powers of 2.
 
 abbrev pub values : List ℕ
 values = 1 ∷ 2 ∷ 4 ∷ 8 ∷ 16 ∷ 32 ∷ 64 ∷ 128 ∷ []
@@ -30,7 +30,7 @@ value-rule k h = eqb→eq (getD values k 0) (2 ^ k) (at (λ (k x : ℕ). eqb x (
 pub value-some : (k r : ℕ) → r ≡ 2 ^ k → 0 < r
 value-some k r e = omega (arith, one-le-pow k 2 (omega arith))
 
--- ---- the low bits of a byte
+-- The low bits of a byte.
 
 agree : Bool → Bool → Bool
 agree true b = b
@@ -58,7 +58,7 @@ low-rule b m h l =
     agreed (all 0 (drop m (bitsOf b))) (eqb (b % 2 ^ (8 - m)) 0)
     (at (λ (m y : ℕ). lowOk b m) (replicate 9 0) (at lowsOk (replicate 256 0) tt b h) m (omega arith))
 
--- ---- the spare bits
+-- The spare bits.
 
 -- The last byte holds them.
 last-bits : (s : List ℕ) (n k : ℕ) → length s ≡ k → k ≡ (n + 7) / 8 → 1 ≤ n → drop n (bits s) ≡ drop (8 - (8 * k - n)) (bitsOf (getD s (k - 1) 0))
@@ -70,7 +70,7 @@ last-bits s n k l e p =
     let y : drop j s ≡ getD s j 0 ∷ [] = drop-cons s j 0 (omega arith) ∙ ap (λ (t : List ℕ). getD s j 0 ∷ t) (drop-of-length-le s {i = suc j} (omega arith)) in
     ap (λ (i : ℕ). drop i (bits s)) z ∙ bits-behind j m s (omega arith) ∙ rw y refl
 
--- ---- the answers
+-- The answers.
 
 module _ (s : List ℕ) (n : ℕ) where
   pub bits-few : length s < (n + 7) / 8 → Fault (coded rasterEnds) ≡ judged (bitsRead n (bytesOfBits n) s)

@@ -38,7 +38,7 @@ pub record Left (s : List ℕ) (f w h at : ℕ) (st : R.State) : Type 0 where
   pub fuel : 2 * length s - at ≤ g
   pub same : judged (walk g f w h st (from s at)) ≡ judged (reading f w h s)
 
--- ---- one turn of the walk, for the judgement alone
+-- One turn of the walk, for the judgement alone.
 
 judged-keep : (i : Item) (r : Result (List Item)) → judged (r >>= λ is. ok (i ∷ is)) ≡ judged r
 unfolding judged _>>=_
@@ -56,7 +56,7 @@ walk-stop zero f w h x s [] l m e = let z : rasterEnds ≡ x = cc in ap (λ (y :
 walk-stop zero f w h x s (y ∷ xs) l m e = absurd (omega arith)
 walk-stop (suc g) f w h x s xs l m e = rw (walk-next g f w h s xs l, e) refl
 
--- ---- the loop
+-- The loop.
 
 pub left-start : (s : List ℕ) (f w h : ℕ) → Bytes s → 0 < w → 0 < h → Left s f w h 0 start
 unfolding from reading

@@ -25,7 +25,7 @@ use Rattle.judge.specs.declared.Judged.the-variants as J
 use Rattle.judge.specs.declared.Turn.{Turn}
 use Rattle.judge.specs.declared.Turn.the-variants as T
 
--- ---- the end
+-- The end.
 
 finish-two : (x y : ℕ) (xs : List ℕ) → finish (x ∷ y ∷ xs) ≡ fault leftOver
 unfolding finish
@@ -58,7 +58,7 @@ module _ (s : List ℕ) (at : ℕ) where
     unfolding judged finish
     finish-spare e = rw (alone, e) refl
 
--- ---- a number above 65,536, held at 65,537, is judged alike
+-- A number above 65,536, held at 65,537, is judged alike.
 
 cap-run : (w h n : ℕ) (s : State) → pixelsLeft w h s ≤ 65536 → afterRun w h (min n cap) s ≡ afterRun w h n s
 unfolding afterRun
@@ -74,7 +74,7 @@ cap-repeat h n s l =
     (λ t. let e : min n cap ≡ n = omega arith in rw e refl)
     (λ t. rw (lt-leb n (h - s .row - 1) (omega arith), lt-leb (min n cap) (h - s .row - 1) (omega arith)) refl)
 
--- ---- a turn
+-- A turn.
 
 -- A move behind an item, with the place of the next nybble.
 on-turn : (s : List ℕ) (black : Bool) (r : Result State) (i : Item) (rest : List ℕ)

@@ -38,7 +38,7 @@ use Rattle.listing.specs.declared.Form.{Form}
 use Rattle.listing.specs.declared.Heading.{Heading}
 use Rattle.listing.specs.declared.Listed.the-variants.{Font, Refused}
 
--- ---- the form of a flag
+-- The form of a flag.
 
 pub form-short : (b : ℕ) → b % 8 < 4 → short ≡ formOf b
 unfolding formOf
@@ -52,7 +52,7 @@ pub form-long : (b : ℕ) → 7 ≤ b % 8 → long ≡ formOf b
 unfolding formOf
 form-long b g = rw (le-ltb (b % 8) 4 (omega arith), le-ltb (b % 8) 7 g) refl
 
--- ---- the preamble
+-- The preamble.
 
 module _ (s : List ℕ) (x : Parts) (c : Cut s x) where
   -- The font is as long as its preamble says.
@@ -94,7 +94,7 @@ module _ (s : List ℕ) (x : Parts) (c : Cut s x) where
       let e : getD s 2 0 + 3 + 12 ≡ getD s 2 0 + 3 + 4 + 4 + 4 = omega arith in
       rw (e, ← drop-drop 4 (getD s 2 0 + 3 + 4 + 4) s, ← drop-drop 4 (getD s 2 0 + 3 + 4) s, ← drop-drop 4 (getD s 2 0 + 3) s) (ap (λ v. v .1 .1 .1 .0) values)
 
--- ---- what the functions answer
+-- What the functions answer.
 
 -- A signed number of four bytes, as the machine reads it back.
 read-back : {z v : ℤ} → SFits w64 z → z ≡ v → toZ w64 (ofZ w64 z) ≡ v
@@ -150,7 +150,7 @@ pub refused-listed : (s : List ℕ) (a : Checked) (r : D.Refusal) (place : ℕ) 
 unfolding A.inNumbers inNumbers headingAnswer check
 refused-listed s a r place e h = refused-told s (verdict s) (r .0) place (sym (ap A.inNumbers e) ∙ h)
 
--- ---- an entry
+-- An entry.
 
 pub entry-is : (s : List ℕ) → Bytes s → (at : ℕ) (x : Outline) → StandsAt s at x → (k : Form) (m : Measures) → IsForm (getD s at 0) k → IsSaid s at m
     → IsEntry s at (record { at = at; form = k; f = x .f; black = x .black; m = m })

@@ -61,7 +61,7 @@ ahead-next {at = at} t p ps e to q =
       are = refl;
     }
 
--- ---- the walk over commands
+-- The walk over commands.
 
 -- From the start on, nothing but commands was passed: the same entries are ahead.
 pub record Going (s : List ℕ) (start at : ℕ) : Type 0 where
@@ -155,7 +155,7 @@ goes s start at q r g e z = go r (sym e ∙ z)
     go Last y = λ es t. all Last y es (g .same es t)
     go (Refused x) y = all (Refused x) y (g .some .0) (g .some .1)
 
--- ---- for who walks on
+-- For who walks on.
 
 -- A packet that comes: the place behind it is further on in the font, and a piece or the ending begins there.
 pub comes-on : (s : List ℕ) (at : ℕ) (q : M.Next) (e : Entry) (to : ℕ) → Between s at → IsNext s at q → q ≡ N.Packet e to → (at < to) × (to ≤ length s) × Between s to

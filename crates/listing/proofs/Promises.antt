@@ -27,7 +27,7 @@ use Rattle.listing.specs.declared.Entry.{Entry}
 use Rattle.listing.specs.declared.Next.{Next}
 use Rattle.listing.specs.declared.Next.the-variants.{Packet, End}
 
--- ---- the whole listing
+-- The whole listing.
 
 -- From a place on, these packets come one after another, as the promise allows, and then none.
 pub data Walked (s : List ℕ) : ℕ → List Entry → Type 0 where
@@ -45,7 +45,7 @@ walked-all s _ _ (more at e to es n w) ls t =
 pub lists-all : (s : List ℕ) (h : Heading) (first : ℕ) → Starts s (Font h first) → (x : Parts) → Cut s x → (es : List Entry) → Walked s first es → map entryIs es ≡ entriesOf x
 lists-all s h first t x c es w = walked-all s first es w (entriesOf x) (t .1 x c .1)
 
--- ---- one answer
+-- One answer.
 
 one-form : (a b : Form) → formIs a ≡ formIs b → a ≡ b
 one-form Short Short e = refl
@@ -116,7 +116,7 @@ one-next s at r t (es, k) a b = go r t (a es k) (b es k)
     go End (Packet e up) a b = absurd (let y = sym (b .next) ∙ a in let z : _≡_ {A = ℕ} 0 1 = cc in omega arith)
     go End End a b = refl
 
--- ---- what an answer says
+-- What an answer says.
 
 -- An answer r that the promise allows of a font s, which is one of bytes.
 module _ (s : List ℕ) (b : Bytes s) (r : Listed) (promised : inNumbers r ≡ told (headingAnswer s)) where

@@ -20,7 +20,7 @@ use Rattle.listing.specs.declared.Entry.{Entry}
 use Rattle.listing.specs.declared.Next.{Next}
 use Rattle.listing.specs.declared.Next.the-variants.{Packet, End}
 
--- ---- the heading
+-- The heading.
 
 -- The code's heading as the definitions'.
 abbrev pub headingIs : Heading → L.Heading
@@ -38,7 +38,7 @@ Counted s n = (x : Parts) × Cut s x × (chars x ≡ n)
 abbrev pub IsHeading : List ℕ → Heading → Type 0
 IsHeading s r = (x : Parts) → Cut s x → headingIs r ≡ headingOf s x
 
--- ---- the packets
+-- The packets.
 
 -- The code's form as the definitions'.
 abbrev pub formIs : Form → F.Form
@@ -94,7 +94,7 @@ Comes s at es End = es ≡ []
 abbrev pub IsNext : List ℕ → ℕ → Next → Type 0
 IsNext s at r = (es : List L.Entry) → Ahead s at es → Comes s at es r
 
--- ---- the inner functions
+-- The inner functions.
 
 -- The form that a flag picks.
 abbrev pub IsForm : ℕ → Form → Type 0

@@ -96,7 +96,7 @@ long-said s at x tfm dx dy hoff voff o et ex ey eh ev =
     let p32 : at + 32 ≡ at + 4 + 4 + 4 + 4 + 4 + 4 + 4 + 4 = omega arith in
     simp (drop-drop, z .0, z .1, z .2, back _ _ _ _ et, back _ _ _ _ ex, back _ _ _ _ ey, back _ _ _ _ eh, back _ _ _ _ ev, p8, p12, p16, p28, p32)
 
--- ---- one of them
+-- One of them.
 
 scaled-one : (a b : ℤ) → F.scaled a ≡ F.scaled b → a ≡ b
 scaled-one a b e = cc

@@ -34,7 +34,7 @@ use Rattle.pack.specs.Answer.{inNumbers}
 use Rattle.pack.specs.Bitmaps.{Bitmap, rasterFor}
 use Rattle.pack.specs.declared.Packed.the-variants.{Length, Refused}
 
--- ---- a refusal
+-- A refusal.
 
 -- The answer is a refusal, and the buffer stays.
 abbrev pub Refuses : List ℕ → F.Measures → List ℕ → Refusal → Type 0
@@ -66,7 +66,7 @@ module _ (b : List ℕ) (m : F.Measures) (buffer : List ℕ) where
       unfolding packed need _>>=_
       code-refused q c = refuses b m buffer badCode refl (rw (l, eq-eqb (length b) (natAbs (m .w) * natAbs (m .h)) n, q, c) refl)
 
--- ---- a packet's bytes
+-- A packet's bytes.
 
 -- Its head and its raster.
 bytes-head : (p : Packet) → bytesOf (packet p) ≡ headOf p ++ p .raster
@@ -87,7 +87,7 @@ head-length : (p : Packet) → length (headOf p) ≡ size (kinds (p .form)) + 1
 unfolding headOf
 head-length p = let n = length-fields (kinds (p .form)) (fields p) in omega arith
 
--- ---- the form picked
+-- The form picked.
 
 -- The packet in the form k is the one chosen; its head is the one for the form picked, and so long.
 record Formed (m : F.Measures) (f : ℕ) (black : Bool) (raster : List ℕ) (p : Picked) (k : Form) : Type 0 where
@@ -126,7 +126,7 @@ no-form m f black raster (Extended dm x y) e t = absurd (omega arith)
 no-form m f black raster (Long x y) e t = absurd (omega arith)
 no-form m f black raster Nothing e t = t
 
--- ---- behind the checks
+-- Behind the checks.
 
 -- There are few pixels,
 pub bitmap-small : (b : List ℕ) (w h : ℕ) (m : F.Measures) → Bitmap b w h m → length b ≤ 65536

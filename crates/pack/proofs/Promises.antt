@@ -21,7 +21,7 @@ use Rattle.pack.specs.Answer.{inNumbers}
 use Rattle.pack.specs.declared.Packed.{Packed}
 use Rattle.pack.specs.declared.Packed.the-variants.{Length, Refused}
 
--- ---- one answer
+-- One answer.
 
 pub one-number : (r t : Packed) → inNumbers r ≡ inNumbers t → r ≡ t
 unfolding inNumbers
@@ -35,7 +35,7 @@ pub one-answer : (b : List ℕ) (m : F.Measures) (buffer : List ℕ) (r t : Pack
     → inNumbers r ≡ told (packAnswer b m buffer) → after ≡ packBuffer b m buffer → inNumbers t ≡ told (packAnswer b m buffer) → after′ ≡ packBuffer b m buffer → (r ≡ t) × (after ≡ after′)
 one-answer b m buffer r t after after′ e o f q = (one-number r t (e ∙ sym f), o ∙ sym q)
 
--- ---- what it says
+-- What it says.
 
 -- An answer r that the promise allows of a bitmap b with measures m and a lent buffer, and what the buffer holds afterwards.
 module _ (b : List ℕ) (m : F.Measures) (buffer : List ℕ) (r : Packed) (after : List ℕ) (promised : inNumbers r ≡ told (packAnswer b m buffer)) (left : after ≡ packBuffer b m buffer) where
@@ -96,7 +96,7 @@ module _ (b : List ℕ) (m : F.Measures) (buffer : List ℕ) (r : Packed) (after
       go (T.seventeen l p c k g n q) = seventeen l p c k g n (answer-of (refused noRoom 0) q) (buffer-of (refused noRoom 0) q)
       go (T.packs l p c k g n q) = packs l p c k g n (answer-of (gives (choiceBytes b m k)) q) (buffer-of (gives (choiceBytes b m k)) q)
 
-  -- ---- each refusal exactly where it must be
+  -- Each refusal exactly where it must be.
 
   -- A bitmap and a code within the limits.
   abbrev pub Judged : Type 0

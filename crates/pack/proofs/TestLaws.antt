@@ -20,7 +20,7 @@ use Rattle.format.proofs.HalfLaws.{length-bit-bytes}
 use Rattle.format.proofs.Tests.{split}
 use Rattle.pack.specs.Bitmaps.{rasterFor}
 
--- ---- w, h and the code
+-- w, h and the code.
 
 pub not-wide : (w h : ℤ) → w ≡ negsuc (mag w) → false ≡ withinLimits w h
 unfolding withinLimits
@@ -49,7 +49,7 @@ unfolding isCode
 code-is (pos n) a e p = rw p refl
 code-is (negsuc n) a e p = absurd (let z : _≡_ {A = ℕ} 0 1 = cc in omega arith)
 
--- ---- pixels
+-- Pixels.
 
 -- The largest byte before i, with the bytes from i on, says what all say.
 pub record SoFar (b : List ℕ) (top i : ℕ) : Type 0 where
@@ -80,7 +80,7 @@ pub pixels-all : {b : List ℕ} {top i : ℕ} → SoFar b top i → length b ≤
 unfolding allPixels
 pixels-all {b} {top} {i} t l = sym (t .same ∙ rw (drop-of-length-le b l) (and-true (ltb top 2)))
 
--- ---- the black bit
+-- The black bit.
 
 pub bits-white : (f : ℕ) (b : List ℕ) → f ≡ 14 → false ≡ firstBlack f b
 unfolding firstBlack
@@ -95,7 +95,7 @@ pub first-pixel : (f : ℕ) (b : List ℕ) → (f ≡ 14 → ⊥) → eqb (getD 
 unfolding firstBlack
 first-pixel f b n = rw (ne-eqb f 14 n) refl
 
--- ---- the raster
+-- The raster.
 
 module _ (f w h : ℕ) (b : List ℕ) where
   pub raster-bits : f ≡ 14 → rasterFor f w h b ≡ bitBytes (bytesOfBits (length b)) b

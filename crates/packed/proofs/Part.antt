@@ -21,7 +21,7 @@ unfolding digits
 digits-none zero k h = absurd (omega arith)
 digits-none (suc l) k h = refl
 
--- ---- the nybbles from a place on
+-- The nybbles from a place on.
 
 module _ (s : List ℕ) where
   -- At the end there are none.
@@ -60,14 +60,14 @@ module _ (s : List ℕ) where
       rw (from-cons j h, ← e, zeros-first (1 + (j - at)) d (from s (j + 1)) p)
       (ap (λ (n : ℕ). digits n d (from s (j + 1))) (omega arith))
 
-  -- ---- what is read
+  -- What is read.
 
   -- A number m that ends before the place j.
   pub number-at : (n m j : ℕ) → n ≡ min m cap → j ≤ 2 * length s → Number n j ≡ toRead s (value m (from s j))
   unfolding toRead
   number-at n m j e h = rw (from-length j) (ap₂ Number e (omega arith))
 
-  -- ---- the loops' invariants
+  -- The loops' invariants.
 
   -- What `skip_zeros` knows at j: from at up to j there are zeros.
   pub record Passed (at j : ℕ) : Type 0 where
@@ -138,7 +138,7 @@ module _ (s : List ℕ) where
       let d = w .held in
       rw (w .same, e) (number-at n (w .sum - 15 + m) j (omega arith) (w .high))
 
-  -- ---- what `read_large` answers, by the place j past the zeros
+  -- What `read_large` answers, by the place j past the zeros.
 
   module _ (at j m : ℕ) (k : Skipped s at j) where
     -- Only zeros are left.
@@ -152,7 +152,7 @@ module _ (s : List ℕ) where
     large-some d z r h e p q =
         q ∙ rw (k .same 1, p, first-digit at j d h e (rw e (k .stop h))) refl
 
-  -- ---- what `read_number` answers
+  -- What `read_number` answers.
 
   -- At the end, nothing is read.
   pub read-past : (at f : ℕ) → 2 * length s ≤ at → Ends ≡ readAt s at f
@@ -192,7 +192,7 @@ module _ (s : List ℕ) where
         rw (cons, decode-first f x (from s (at + 1)) (omega arith), lt-leb x f r, le-leb x 13 p, from-cons (at + 1) q, g′)
         (number-at n ((x - f - 1) * 16 + getD (nybbles s) (at + 1) 0 + f + 1) (at + 1 + 1) (omega arith) (omega arith))
 
--- ---- what `short_at` answers
+-- What `short_at` answers.
 
 module _ (s : List ℕ) (at f : ℕ) where
   -- None begins.

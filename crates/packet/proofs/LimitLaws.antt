@@ -11,7 +11,7 @@ use borrow.Author.Tests.{le-ltb, lt-leb, ne-eqb}
 use Rattle.format.specs.Limits.{inLimits, withinLimits, isCode}
 use Rattle.format.specs.Numbers.{twos}
 
--- ---- w and h
+-- w and h.
 
 -- With no width there is no height.
 pub limits-zero : (w h : ℕ) → w ≡ 0 → eqb h 0 ≡ inLimits w h
@@ -48,7 +48,7 @@ limits-high w h l k = limits-large w h l (omega arith) (let p = mul-le-mul-right
 pub both-small : (w h : ℕ) → w ≤ 65536 → h ≤ 65536 → w * h ≤ 4294967296
 both-small w h l k = let p = mul-le-mul-right {m = w} {n = 65536} h l in omega arith
 
--- ---- fields as the numbers that their bytes are
+-- Fields as the numbers that their bytes are.
 
 -- Above −2^31 − 1.
 abbrev pub Low : ℤ → Type 0

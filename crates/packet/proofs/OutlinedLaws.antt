@@ -23,7 +23,7 @@ use Rattle.packet.specs.declared.Piece.{Piece}
 use Rattle.packet.specs.declared.Piece.the-variants.{Packet, Refused}
 use Rattle.packet.specs.Outlines.{pieceOf, outlined, fieldsOf, fieldsAt, narrowForm, outlineAs, judgedAs}
 
--- ---- the raster
+-- The raster.
 
 -- w, h and the code are no lower than four bytes say.
 record Lows (x : Header) : Type 0 where
@@ -61,7 +61,7 @@ raster-raw b end place fixed n x t e d l = go (leb n (length t)) refl (withinLim
         let front : place + n - n ≡ place = omega arith in
         rw (le-ltb (length t) n m, sym limits ∙ g, sym code ∙ h, length-drop n t, length-take-le n t m, behind, front, d, o .0, o .1, code-own (x .code) h) refl
 
--- ---- the length
+-- The length.
 
 -- What four signed bytes hold.
 abbrev Fit : ℤ → Type 0
@@ -94,7 +94,7 @@ length-raw b end place fixed x t (negsuc n) e f l =
     either true = refl
     either false = refl
 
--- ---- the whole
+-- The whole.
 
 -- Four signed bytes.
 value-fits : (n : ℕ) → Low (valueOf (signed 4) n) × Fit (valueOf (signed 4) n)
@@ -131,7 +131,7 @@ outlined-judged k b at s i h f =
     rw (le-leb m (length (drop at s)) (rw length-drop (omega arith)))
     (length-raw b (length s) (at + m) (fixed k) x t (x .length) (omega arith) f (lows k b (drop at s)) ∙ ap (judgedAs b (fieldsOf x) (fixed k) (at + m)) n)
 
--- ---- the first two forms
+-- The first two forms.
 
 -- The sizes of their fixed parts.
 pub narrow-size : (m : ℕ) → 1 ≤ m → m ≤ 2 → (6 * m + 4 ≡ size (kinds (narrowForm m))) × (5 * m + 3 ≡ fixed (narrowForm m))
@@ -157,7 +157,7 @@ narrow-judged m b at c n room s x r l k i h e ec en er q =
     let j = outlined-judged (narrowForm m) b at s i (omega arith) (narrow-fit (eqb m 1) b (drop at s) (rw (← e .0) (e .1))) in
     q ∙ rw (ec ∙ z .1, en ∙ ap (λ (y : ℕ). at + y) (z .0), er ∙ ap (λ (y : ℕ). length s - at - y) (z .0), e .0) (sym j)
 
--- ---- the long form
+-- The long form.
 
 -- Its fields do not look at the flag.
 pub long-judged : (b at n room : ℕ) (s : List ℕ) (x : Fields) (r : Piece) → at ≤ length s → 36 ≤ length s - at → x ≡ fieldsAt long 0 (drop at s)
@@ -167,7 +167,7 @@ long-judged b at n room s x r i h e en er q =
     let j = outlined-judged long b at s i h (value-fits (number 4 (drop at s)) .1) in
     q ∙ rw (en, er, e) (sym j)
 
--- ---- the form
+-- The form.
 
 -- What flag mod 8 says.
 pub form-outlined : (k : Form) (b at : ℕ) (s : List ℕ) (r : Piece) → Bits k (b % 8) → r ≡ outlined k b at s → r ≡ outlined (formOf b) b at s

@@ -17,7 +17,7 @@ use Rattle.packet.specs.declared.Fields.{Fields}
 use Rattle.packet.specs.declared.Piece.{Piece}
 use Rattle.packet.specs.declared.Piece.the-variants.{Packet, Command, Last, Refused}
 
--- ---- a piece
+-- A piece.
 
 -- A packet that ends at a place, without its measures.
 abbrev pub outlineOf : F.Packet → ℕ → Outline
@@ -45,7 +45,7 @@ pieceOf n (fault x) = Refused (coded x)
 unfoldable pub outlined : Form → ℕ → ℕ → List ℕ → Piece
 outlined k b at s = pieceOf (length s) (packetAt b k (header k b (readFields (kinds k) (drop at s))) (drop at s))
 
--- ---- its fields
+-- Its fields.
 
 -- Those of a header that are judged, as the numbers that four bytes are.
 abbrev pub fieldsOf : Header → Fields

@@ -24,7 +24,7 @@ use Rattle.escapement.specs.Count.{capped}
 use Rattle.pick.specs.Picks.{Judged, tried, plainIn, pixelsBelow, scaledIn, narrowIn, longIn}
 use Rattle.pick.proofs.TestLaws.{alike, same-self}
 
--- ---- tests in a row
+-- Tests in a row.
 
 -- The tests of the escapement may stand behind that of the length.
 turned : (a b l x : Bool) → (a && b) && (l && x) ≡ l && (a && (b && x))
@@ -52,7 +52,7 @@ fourth false b c x e = refl
 less-alike : (a b c d : ℕ) → (a < b → c < d) → (c < d → a < b) → ltb a b ≡ ltb c d
 less-alike a b c d f g = alike _ _ (λ e. lt-ltb c d (f (ltb-true a b e))) (λ e. lt-ltb a b (g (ltb-true c d e)))
 
--- ---- one field
+-- One field.
 
 -- A field's test by the value's magnitude.
 plain-is : (k : ℕ) (z : ℤ) → held (unsigned k) z ≡ plainIn (256 ^ k) z
@@ -89,7 +89,7 @@ small m j =
       code = ltb-true (natAbs (m .code)) 256 (c .1);
     }
 
--- ---- all fields
+-- All fields.
 
 -- Those of the first two forms, with dm pixels, behind a length that is held.
 narrow-fields : (k half : ℕ) (m : F.Measures) (dm n : ℕ) → 256 ^ k ≡ 2 * half → n < 256 ^ k → Small m
@@ -146,7 +146,7 @@ long-fields m n (F.scaled dx) (F.scaled dy) s =
     )
     refl
 
--- ---- the three forms
+-- The three forms.
 
 -- The code's test of each form is that of the definitions.
 module _ (m : F.Measures) (n : ℕ) (j : Judged m) where
@@ -176,7 +176,7 @@ module _ (m : F.Measures) (n : ℕ) (j : Judged m) where
       same : (d : F.Scaled) → F.sameScaled d d ≡ true
       same (F.scaled z) = same-self z
 
--- ---- pixels beyond 65,535
+-- Pixels beyond 65,535.
 
 -- Where the pixels to try are more than 65,535, neither they nor 0 are held as the escapement.
 beyond : (top half : ℕ) (m : F.Measures) (d : F.Scaled) → m .dx ≡ d → top ≤ 65536
@@ -199,7 +199,7 @@ same-pixels : (top half : ℕ) (m : F.Measures) → top ≤ 65536 → narrowIn t
 same-pixels top half m l h =
     ⊎-elim (λ e. e) (λ e. absurd (let z : _≡_ {A = ℕ} 0 1 = cc in omega arith)) (beyond top half m (m .dx) refl l)
 
--- ---- the offsets of a form that holds
+-- The offsets of a form that holds.
 
 pub narrow-offsets : (top half n most : ℕ) (dm : F.Pixels) (m : F.Measures) {s : Bool} → s ≡ narrowIn top half dm m → ltb n most && s ≡ true → (mag (m .hoff) < half) × (mag (m .voff) < half)
 unfolding narrowIn
@@ -224,7 +224,7 @@ long-offsets n most m e t =
     let h4 = and-true (ltb (mag (m .hoff)) 2147483648) _ h3 in
     (ltb-true (mag (m .hoff)) 2147483648 (h4 .0), ltb-true (mag (m .voff)) 2147483648 (h4 .1))
 
--- ---- what the function answers
+-- What the function answers.
 
 module _ (m : F.Measures) (n : ℕ) (dm : F.Pixels) {s : Bool} (j : Judged m) (d : dm ≡ capped (F.wholePixels (m .dx))) (e : s ≡ narrowIn 256 128 dm m) where
   short-held : holds m (tried m n short) ≡ ltb n 1016 && s

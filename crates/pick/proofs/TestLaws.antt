@@ -29,7 +29,7 @@ unfolding F.sameScaled
 same-self (pos n) = eq-eqb n n refl
 same-self (negsuc n) = eq-eqb n n refl
 
--- ---- one field
+-- One field.
 
 pub plain-below : (z : ℤ) (top : ℕ) → z ≡ negsuc (mag z) → false ≡ plainIn top z
 plain-below z top e = subst (λ (y : ℤ). false ≡ plainIn top y) (sym e) refl
@@ -58,7 +58,7 @@ same-sym a b = alike _ _ (turn a b) (turn b a)
     turn : (a b : ℤ) → F.sameScaled (F.scaled a) (F.scaled b) ≡ true → F.sameScaled (F.scaled b) (F.scaled a) ≡ true
     turn a b e = subst (λ (y : F.Scaled). F.sameScaled y (F.scaled a) ≡ true) (same-is (F.scaled a) (F.scaled b) e) (same-self a)
 
--- ---- all fields; a magnitude is taken of a number as the machine reads it back
+-- All fields; a magnitude is taken of a number as the machine reads it back.
 
 pub narrow-all : (top half : ℕ) (m : Measures) (dm : Pixels) (back : Scaled) {t : Bool} {w h x y : ℕ}
     → at64 (back .0) ≡ back .0 → at64 (m .dx .0) ≡ m .dx .0 → at64 (m .dy .0) ≡ m .dy .0

@@ -32,7 +32,7 @@ IsPicked m n (Extended dm x y) = (firstForm m (tried m n) ≡ ok (tried m n exte
 IsPicked m n (Long x y) = (firstForm m (tried m n) ≡ ok (tried m n long)) × (x ≡ m .hoff) × (y ≡ m .voff)
 IsPicked m n Nothing = firstForm m (tried m n) ≡ fault noForm
 
--- ---- tests
+-- Tests.
 
 -- From 0 to top − 1.
 abbrev pub plainIn : ℕ → ℤ → Bool

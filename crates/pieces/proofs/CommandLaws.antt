@@ -18,7 +18,7 @@ use Rattle.fields.proofs.Rebuilt.{values-at, values-most}
 use Rattle.packet.specs.declared.Piece.the-variants.{Command, Refused}
 use Rattle.packet.specs.Outlines.{pieceOf}
 
--- ---- a command's length
+-- A command's length.
 
 -- Below 2^31 it is its own value,
 length-own : (k n : ℕ) → n < 2147483648 → valueOf (lengthKind k) n ≡ pos n
@@ -40,7 +40,7 @@ length-negative k n l b h = go (eqb k 4) refl
         let d : k ≤ 3 = omega (arith, eqb-false k 4 e) in
         absurd (omega (arith, values-most k 3 d))
 
--- ---- 240 to 243
+-- 240 to 243.
 
 module _ (s : List ℕ) (at k : ℕ) where
   -- The bytes of the length are not all there.
@@ -82,7 +82,7 @@ module _ (s : List ℕ) (at k : ℕ) where
         )
         (ap Command (simp length-drop (omega arith)))
 
--- ---- 244
+-- 244.
 
 -- The four bytes are not all there.
 pub numeric-ends : (s : List ℕ) (at : ℕ) → length s - at < 4 → Refused (record { 0 = 4 }) ≡ pieceOf (length s) (numericAt (drop at s))

@@ -13,7 +13,7 @@ use Rattle.packet.specs.declared.Piece.{Piece}
 use Rattle.packet.specs.declared.Piece.the-variants.{Command, Last, Refused}
 use Rattle.packet.specs.Outlines.{pieceOf, outlined}
 
--- ---- by the first byte
+-- By the first byte.
 
 module _ (s : List ℕ) (at b : ℕ) where
   -- A flag.
@@ -56,7 +56,7 @@ module _ (s : List ℕ) (at b : ℕ) where
       )
       refl
 
--- ---- at a place
+-- At a place.
 
 -- A place behind the end.
 pub piece-ends : (s : List ℕ) (at : ℕ) → length s ≤ at → Refused (record { 0 = 4 }) ≡ pieceOf (length s) (step (drop at s))

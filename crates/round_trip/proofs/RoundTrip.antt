@@ -63,7 +63,7 @@ module _ (b : List ℕ) (m : Measures) (buffer after : List ℕ) (n : ℕ) (answ
         ∙ alone-drawn b (said m) (take n after) packed a fine pad comment (subst (λ (x : List ℕ). length x ≤ most) is small) (subst (λ (x : List ℕ). length x % 4 ≡ 0) is four) (length pixels) l in
         (one-number r (Measured m) (e ∙ rw d refl), o ∙ rw d refl)
 
--- ---- in one
+-- In one.
 
 -- A packet's bytes come back as the bitmap b with the measures m: with every preamble there is an ending, and of that font s, for every answer that the calls' promises allow,
 -- the checker accepts it with one character and the drawer, with room for the pixels, gives back the measures and the pixels.

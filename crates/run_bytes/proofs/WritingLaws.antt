@@ -20,7 +20,7 @@ use Rattle.emit.specs.Nybbles.{putOne, putAll}
 use Rattle.emit.proofs.PutLaws.{length-puts, put-append, put-one, put-halves}
 use Rattle.run_bytes.specs.Put.{Room, Put}
 
--- ---- the nybbles of a repeat and of a run
+-- The nybbles of a repeat and of a run.
 
 repeat-none : (f : ℕ) → writings f (before 0 []) ≡ []
 unfolding writings before
@@ -47,7 +47,7 @@ run-one : (f k m : ℕ) → writings f (before m (run k ∷ [])) ≡ writings f 
 unfolding writings
 run-one f k m = run-is f k m [] ∙ ap (λ (x : List ℕ). writings f (before m []) ++ x) (append-nil (encode f k))
 
--- ---- one run
+-- One run.
 
 put-none : (d : List ℕ) (i : ℕ) → putAll d i [] ≡ d
 unfolding putAll
@@ -85,7 +85,7 @@ put-run d d₁ d₂ i j f k m r p g =
       is = g .1 ∙ rw (p .is, p .place, q, put-append (writings f (before m [])) (encode f k) d i) refl;
     }
 
--- ---- a part
+-- A part.
 
 writings-append : (f : ℕ) (is js : List Item) → writings f (is ++ js) ≡ writings f is ++ writings f js
 unfolding writings
@@ -128,7 +128,7 @@ module _ (f : ℕ) {n j i to : ℕ} {d now ls rs : List ℕ} (p : Put d i (writi
   pub part-more : {r : ℕ} {then : List ℕ} → Put now to (writings f (before (getD rs j 0) (run (getD ls j 0) ∷ []))) r then → Put d i (writings f (kept (j + 1) ls rs)) r then
   part-more q = rw (writings-kept f j ls rs) (put-then p q)
 
--- ---- part after part
+-- Part after part.
 
 -- Of the items to be written from i on into d, those left where the part p begins are left, from the nybble at `to` on.
 pub record Writing (b : List ℕ) (w f : ℕ) (d : List ℕ) (i : ℕ) (now : List ℕ) (to : ℕ) (ls rs : List ℕ) (p : Part) : Type 0 where
@@ -179,7 +179,7 @@ module _ {b : List ℕ} {w f i to : ℕ} {d now ls rs : List ℕ} {p : Part} (s 
         let e : writings f (itemsLeft b w (p .cursor)) ≡ [] = ap (writings f) (s .part .over l) in
         record { place = omega (arith, s .place, q .place, left-long, ap length e); is = sym (rest-is ∙ ap (putAll then r) e ∙ put-none then r) }
 
--- ---- the bytes
+-- The bytes.
 
 -- Room for the bytes is room for the nybbles; the nybbles written, the place behind and the bytes that stand in the buffer.
 pub room-halves : (d : List ℕ) (at : ℕ) (xs : List ℕ) → at + length (halves xs) ≤ length d → Room d (2 * at) xs

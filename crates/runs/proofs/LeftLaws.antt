@@ -52,7 +52,7 @@ pub record Left (s : List ℕ) (f : ℕ) (black : Bool) (w h : ℕ) (d₀ d : Li
 abbrev pub LeftIn : List ℕ → ℕ → Bool → ℕ → ℕ → List ℕ → List ℕ → ℕ → State → Type 0
 LeftIn s f black w h d₀ d at st = Left s f black w h d₀ d at (plain st) (st .black)
 
--- ---- the start
+-- The start.
 
 pub left-start : (s : List ℕ) (f : ℕ) (black : Bool) (w h : ℕ) (d₀ : List ℕ) (st : State) → f ≤ 13 → 0 < w → 0 < h → Bytes s → ReadWhole f w h s → st ≡ coloured black start
     → LeftIn s f black w h d₀ d₀ 0 st
@@ -80,7 +80,7 @@ left-start s f black w h d₀ st hf p q b r e = subst (λ (x : State). LeftIn s 
           long = refl;
         }
 
--- ---- the next item, of a walk that ends well
+-- The next item, of a walk that ends well.
 
 -- The item fits.
 abbrev Fits : ℕ → ℕ → R.State → Item → Type 0
@@ -126,7 +126,7 @@ first-item (suc g) f w h st xs is l e =
       },
     )
 
--- ---- lengths, and the picture
+-- Lengths, and the picture.
 
 module _ (w : ℕ) (st : R.State) (pre : List ℕ) (c : ℕ) (cols : length pre ≡ st .column) where
   -- The begun row with a run of n.
@@ -165,7 +165,7 @@ colour-not : (black : Bool) → colour (not black) ≡ 1 - colour black
 colour-not true = refl
 colour-not false = refl
 
--- ---- a turn of the loop
+-- A turn of the loop.
 
 module _ {s : List ℕ} {f : ℕ} {black : Bool} {w h : ℕ} {d₀ d : List ℕ} {at : ℕ} {st : R.State} {c : Bool} (t : Left s f black w h d₀ d at st c) (l : st .row < h) (small : w * h ≤ 65536) (hf : f ≤ 13) where
   within : Within w h st
@@ -276,7 +276,7 @@ module _ {s : List ℕ} {f : ℕ} {black : Bool} {w h : ℕ} {d₀ d : List ℕ}
         go (fourteen k) u = let z = sym e ∙ is ∙ ap (toItem s) (u .item) in let z : _≡_ {A = ℕ} 0 1 = cc in omega arith
         go fifteen u = let z = sym e ∙ is ∙ ap (toItem s) (u .item) in let z : _≡_ {A = ℕ} 0 1 = cc in omega arith
 
--- ---- the end
+-- The end.
 
 -- Where the rows are full, no items are left.
 finish-ok : (xs : List ℕ) (is : List Item) → finish xs ≡ ok is → [] ≡ is

@@ -18,7 +18,7 @@ use Rattle.fill.proofs.RowLaws.{length-times}
 use Rattle.state.proofs.MoveLaws.{some-end}
 use Rattle.runs.specs.Runs.{placeOf, begun, withRun}
 
--- ---- rows joined
+-- Rows joined.
 
 -- Rows after rows, and a row so many times.
 pub joined-append : (a b : List (List ℕ)) → joined (a ++ b) ≡ joined a ++ joined b
@@ -54,7 +54,7 @@ full-first w q rep x =
     ∙ append-assoc (times (suc rep) (take w x)) (joined (filledRows w q 0 (drop w x))) (behind w q (drop w x))
     ∙ ap (λ (y : List ℕ). times (suc rep) (take w x) ++ y) (full-none w q (drop w x))
 
--- ---- places
+-- Places.
 
 -- Behind q full rows, and the first one's repeats.
 place-ends : (w q : ℕ) (s : State) → suc q * w ≤ s .column → placeOf w (rowEnds w (suc q) s) ≡ s .row * w + s .repeat * w + s .column
@@ -74,7 +74,7 @@ ends-length w (suc q) s x l e =
     let b : length (times (suc (s .repeat)) (take w x)) ≡ suc (s .repeat) * w = length-times (suc (s .repeat)) (take w x) ∙ ap (λ (y : ℕ). suc (s .repeat) * y) t in
     omega arith
 
--- ---- a run
+-- A run.
 
 -- The rows done and the row begun stand in the buffer d, which was d₀ at first.
 module _ (w n c : ℕ) (s : State) (done pre d₀ d : List ℕ) (rows : length done ≡ s .row * w) (cols : length pre ≡ s .column) (e : d ≡ done ++ (pre ++ drop (placeOf w s) d₀)) where

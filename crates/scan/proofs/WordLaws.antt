@@ -44,7 +44,7 @@ difference-early {b} {x} {y} {r} {s} {k} e d f n = elim (decLe 8 k) [ yes h ↦ 
         let z : getD b x 0 ≡ getD b y 0 = ap (λ (i : ℕ). getD b i 0) (sym (add-zero x)) ∙ f .below 0 (omega arith) .is ∙ ap (λ (i : ℕ). getD b i 0) (add-zero y) in
         rw (z, (f .below 1 (omega arith) .is), (f .below 2 (omega arith) .is), (f .below 3 (omega arith) .is), (f .below 4 (omega arith) .is), (f .below 5 (omega arith) .is), (f .below 6 (omega arith) .is), (f .below 7 (omega arith) .is)) refl
 
--- ---- the loops
+-- The loops.
 
 -- The bytes from i places further on.
 further : (b : List ℕ) (at i j : ℕ) → getD b (at + i + j) 0 ≡ getD b (at + (i + j)) 0

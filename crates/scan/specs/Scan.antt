@@ -10,10 +10,11 @@ pub record First (P : ℕ → Type 0) (n k : ℕ) : Type 0 where
   pub below : (i : ℕ) → i < k → P i
   pub stop : k < n → P k → ⊥
 
--- The byte i behind a place is x; those behind two places are equal.
+-- The byte i behind a place is x.
 pub record IsByte (b : List ℕ) (at x i : ℕ) : Type 0 where
   pub is : getD b (at + i) 0 ≡ x
 
+-- The bytes i behind two places are equal.
 pub record AreEqual (b : List ℕ) (x y i : ℕ) : Type 0 where
   pub is : getD b (x + i) 0 ≡ getD b (y + i) 0
 
@@ -25,7 +26,7 @@ FirstOther b at n x k = First (IsByte b at x) n k
 abbrev pub FirstDifference : List ℕ → ℕ → ℕ → ℕ → ℕ → Type 0
 FirstDifference b x y n k = First (AreEqual b x y) n k
 
--- ---- the inner functions
+-- The inner functions.
 
 -- The byte i of a number, the least first.
 unfoldable pub byteOf : ℕ → ℕ → ℕ

@@ -23,7 +23,7 @@ reads-back z l = toZ-ofZ {w = w64} (record { sfits = l })
 pub bound-back : (z : ℤ) (k : ℕ) → mag z < k → k ≤ 9223372036854775808 → mag (at64 z) < k
 bound-back z k h l = subst (λ (y : ℤ). mag y < k) (sym (reads-back z (omega arith))) h
 
--- ---- the sign
+-- The sign.
 
 below : (z : ℤ) → ltZ z (pos 0) ≡ true → z ≡ negsuc (mag z)
 below (pos n) e = absurd (subst T (sym e ∙ le-ltb n 0 (omega arith)) tt)
@@ -41,7 +41,7 @@ negative z b e = below z (ap (λ (y : ℤ). ltZ y (pos 0)) (sym b) ∙ e)
 pub natural : (z : ℤ) → at64 z ≡ z → ltZ (at64 z) (pos 0) ≡ false → z ≡ pos (mag z)
 natural z b e = above z (ap (λ (y : ℤ). ltZ y (pos 0)) (sym b) ∙ e)
 
--- ---- the magnitude
+-- The magnitude.
 
 small : (z : ℤ) → SFits w64 z → mag z < 9223372036854775808
 small (pos n) f = omega (arith, f .sfits)
@@ -88,7 +88,7 @@ module _ (z : ℤ) (f : SFits w64 z) (e : ltZ (at64 z) (pos 0) ≡ false) where
   pub flat-is : (natAbs (at64 z) ≡ mag z) × (natAbs (at64 z) < 9223372036854775808)
   flat-is = subst (λ (y : ℤ). (natAbs y ≡ mag z) × (natAbs y < 9223372036854775808)) (sym same) (refl, small z f)
 
--- ---- in fewer bits
+-- In fewer bits.
 
 -- Where a number fits fewer bits, it is the same number there,
 pub in-bits : (w : Width) (x z : ℤ) → SFits w z → x ≡ z → toZ w (ofZ w x) ≡ z
@@ -98,7 +98,7 @@ in-bits w x z f e = ap (λ (y : ℤ). toZ w (ofZ w y)) e ∙ toZ-ofZ {w = w} f
 pub fewer : (w : Width) {x : ℤ} (z : ℤ) → SFits w z → mag z < 9223372036854775808 → x ≡ at64 z → toZ w (ofZ w x) ≡ z
 fewer w {x} z f l e = in-bits w x z f (e ∙ reads-back z l)
 
--- ---- in 64 bits again
+-- In 64 bits again.
 
 module _ (w : Width) (x : ℤ) (f : SFits w x) (l : mag x < 9223372036854775808) where
   pub wider-fits : SFits w64 (toZ w (ofZ w x))

@@ -18,7 +18,7 @@ use Rattle.part.specs.declared.Part.{Part}
 use Rattle.size.specs.declared.Chosen.{Chosen}
 use Rattle.size.specs.Sizes.{Sizes, Sized, Best, IsChosen}
 
--- ---- the least
+-- The least.
 
 -- The first place is the least of one; the next takes its place, or not.
 pub best-start : (t : List ℕ) → Best t 1 0
@@ -53,7 +53,7 @@ best-fewest is {t} {f} s b =
     })
     (fewest-least is)
 
--- ---- the bytes
+-- The bytes.
 
 -- The bytes of the two kinds of raster.
 bits-length : (is : List Item) (b : List ℕ) → bytesOfBits (length b) ≡ length (rasterOf 14 is b)
@@ -64,7 +64,7 @@ runs-length : (f : ℕ) (is : List Item) (b : List ℕ) → f < 14 → (nybbleCo
 unfolding rasterOf nybbleCount
 runs-length f is b h = rw (ne-eqb f 14 (λ e. omega arith)) (sym (length-halves (writings f is)))
 
--- ---- the choice
+-- The choice.
 
 -- The sizes of what is left before the first pixel are those of the count list.
 pub counted : {b : List ℕ} {w : ℕ} {p : Part} {t ls rs : List ℕ} (h : ℕ) → 0 < w → length b ≡ w * h → Sized b w p t ls rs → Sizes (counts (rows w h b)) t

@@ -13,7 +13,7 @@ use Rattle.format.proofs.Tests.{split}
 use Rattle.format.proofs.PackedLaws.{large-one, large-more, length-one, length-two}
 use Rattle.size.specs.Sizes.{Few, over, shortNybbles, digitNybbles}
 
--- ---- numbers
+-- Numbers.
 
 long-one : (k : ℕ) → k < 16 → length (large k) ≡ 1
 long-one k h = ap length (large-one k h)
@@ -38,7 +38,7 @@ long-four k h l = long-by 256 4096 5 long-three k (omega arith) (omega arith) (o
 long-five : (k : ℕ) → 65536 ≤ k → k < 1048576 → length (large k) ≡ 9
 long-five k h l = long-by 4096 65536 7 long-four k (omega arith) (omega arith) (omega arith)
 
--- ---- tests as numbers
+-- Tests as numbers.
 
 -- A test counts nothing or one.
 over-no : (most n : ℕ) → n ≤ most → over most n ≡ 0
@@ -63,7 +63,7 @@ is-two most n h l = record { is = omega (arith, is-over most n h l .is); few = o
 over-few : (most n : ℕ) → over most n ≤ 1
 over-few most n = split (suc most) n (λ t. omega (arith, over-yes most n t)) (λ t. omega (arith, over-no most n (omega arith)))
 
--- ---- a packed number
+-- A packed number.
 
 -- Two digits make three nybbles, and each above the second two more.
 large-over : (k : ℕ) → 16 ≤ k → k < 1048576 → length (large k) ≡ 3 + 2 * (over 255 k + over 4095 k + over 65535 k)
@@ -114,7 +114,7 @@ module _ (f n : ℕ) where
   encode-few : f ≤ 13 → n ≤ 65536 → length (encode f n) ≤ 9
   encode-few h l = omega (arith, encode-length h l, short-few, digit-few)
 
--- ---- items
+-- Items.
 
 pub count-nil : (f : ℕ) → nybbleCount [] f ≡ 0
 unfolding nybbleCount writings

@@ -19,7 +19,7 @@ use Rattle.part.proofs.KeptLaws.{kept-more}
 use Rattle.size.specs.Sizes.{shortNybbles, digitNybbles, Totals, Grown, Sized}
 use Rattle.size.proofs.LengthLaws.{short-few, encode-length, encode-short, count-nil, repeat-one, repeat-more, repeat-few, run-behind, run-first, count-append, run-few}
 
--- ---- nybbles more
+-- Nybbles more.
 
 -- The totals below f have grown by what g says, the others not yet.
 pub record Half (t : List ℕ) (g : ℕ → ℕ) (r : List ℕ) (f : ℕ) : Type 0 where
@@ -67,7 +67,7 @@ grown-as j e l = record { long = e .long; is = λ f h. omega (arith, e .is f h, 
 grown-twice : {t s r : List ℕ} {g k : ℕ → ℕ} (j : ℕ → ℕ) → Grown t g s → Grown s k r → ((f : ℕ) → f < 14 → j f ≡ g f + k f) → Grown t j r
 grown-twice j d e l = record { long = e .long; is = λ f h. omega (arith, d .is f h, e .is f h, l f h) }
 
--- ---- a number, a repeat, a run
+-- A number, a repeat, a run.
 
 module _ (n : ℕ) {t s : List ℕ} (d : Grown t (λ f. shortNybbles f n) s) where
   -- The nybbles up to the third are all, or leave room for the others, and are all with them.
@@ -103,7 +103,7 @@ module _ (m : ℕ) {t s : List ℕ} (d : Grown t (nybbleCount (before m [])) s) 
   pub run-repeated : (k : ℕ) {r : List ℕ} → Grown s (λ f. length (encode f k)) r → Grown t (nybbleCount (before m (run k ∷ []))) r
   run-repeated k e = grown-twice (nybbleCount (before m (run k ∷ []))) d e (λ f h. run-behind f k m)
 
--- ---- a part
+-- A part.
 
 -- No run of a part is taken.
 pub part-none : (t ls rs : List ℕ) → length t ≡ 14 → Grown t (nybbleCount (kept 0 ls rs)) t
@@ -129,7 +129,7 @@ module _ {n i : ℕ} {t u ls rs : List ℕ} (d : Grown t (nybbleCount (kept i ls
   pub part-more : {v : List ℕ} → Grown u (nybbleCount (before (getD rs i 0) (run (getD ls i 0) ∷ []))) v → Grown t (nybbleCount (kept (i + 1) ls rs)) v
   part-more e = grown-twice (nybbleCount (kept (i + 1) ls rs)) d e (λ f h. count-kept f i ls rs)
 
--- ---- part after part
+-- Part after part.
 
 -- What the totals have, and what is left where the part p begins, make the sizes of the count list. If the first part is the whole list, it is this one.
 pub record Summed (b : List ℕ) (w : ℕ) (first : Part) (t ls rs : List ℕ) (p : Part) : Type 0 where

@@ -14,7 +14,7 @@ use Rattle.state.specs.Moves.{coloured, movedTo, Within}
 use Rattle.state.specs.declared.State as D
 use Rattle.state.specs.declared.Moved.the-variants.{To, Fault}
 
--- ---- rows that are full
+-- Rows that are full.
 
 same-state : {a b c d e f : ℕ} {x : Bool} → a ≡ b → c ≡ d → e ≡ f
     → _≡_ {A = D.State} (record { column = a; row = c; repeat = e; black = x }) (record { column = b; row = d; repeat = f; black = x })
@@ -47,7 +47,7 @@ one-end w n s black p l u =
     let q : c / w ≡ 1 = omega (arith, some-end w c p l, div-lt-iff-lt-mul {x = c} {y = 2} p .1 (omega arith)) in
     rw q refl
 
--- ---- a run
+-- A run.
 
 pub run-over : (w h n : ℕ) (s : State) (black : Bool) → pixelsLeft w h s < n → Fault (coded tooMany) ≡ movedTo black (afterRun w h n s)
 unfolding afterRun movedTo
@@ -58,7 +58,7 @@ pub run-fits : (w h n : ℕ) (s : State) (black : Bool) (t : D.State) → n ≤ 
 unfolding afterRun movedTo
 run-fits w h n s black t l e = rw (le-leb n (pixelsLeft w h s) l) (ap To e)
 
--- ---- a repeat
+-- A repeat.
 
 pub repeat-over : (h n : ℕ) (s : State) (black : Bool) → h - s .row - 1 < n → Fault (coded tooMany) ≡ movedTo black (afterRepeat h n s)
 unfolding afterRepeat movedTo
@@ -68,7 +68,7 @@ pub repeat-fits : (h n : ℕ) (s : State) (black : Bool) (t : D.State) → n ≤
 unfolding afterRepeat movedTo
 repeat-fits h n s black t l e = rw (le-leb n (h - s .row - 1) l) (ap To e)
 
--- ---- what a state within the raster gives
+-- What a state within the raster gives.
 
 -- The pixels of the row and of the rows left are no more than 65,536,
 pub left-small : (w h : ℕ) (s : State) → Within w h s → pixelsLeft w h s + s .column ≤ 65536

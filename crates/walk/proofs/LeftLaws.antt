@@ -54,7 +54,7 @@ left-over {b} {w} {c} i h l =
     ∙ ap (λ (x : List (List ℕ)). strung (c .before) (kept x)) (rows-none b w (c .next) (i .more-rows) (i .wide) (i .whole) l)
     ∙ strung-nil (c .before)
 
--- ---- the next row
+-- The next row.
 
 -- The cursor where the next row kept begins.
 abbrev entered : Cursor → ℕ → ℕ → ℕ → Cursor
@@ -81,7 +81,7 @@ is-entered {b} {w} {c} {next} {n} i h r = record {
 pub room : {b : List ℕ} {w : ℕ} {c d : Cursor} → Entered b w c d → (d .at < d .end) × (d .end ≤ length b)
 room e = (omega (arith, e .at, e .end, e .inside .wide), omega (arith, e .inside .after, e .inside .whole))
 
--- ---- several pixels
+-- Several pixels.
 
 -- Pixels of the colour of the one before take no repeat.
 left-plain : (b : List ℕ) (w next n p k : ℕ) (xs : List ℕ) → leftOf b w next n p (replicate k p ++ xs) ≡ replicate k (pixel p 0) ++ leftOf b w next n p xs
@@ -118,7 +118,7 @@ left-begun b w c x n p h l f =
     ap (leftOf b w (c .next) (c .owed) (c .before)) (row-split b (c .at) (c .end) x n h l f)
     ∙ first-takes b w (c .next) (c .owed) (c .before) x n (take (c .end - (c .at + n)) (drop (c .at + n) b)) p
 
--- ---- the first pixel that is left
+-- The first pixel that is left.
 
 -- The string does not go on with the colour x.
 abbrev pub Other : ℕ → List Pixel → Type 0

@@ -16,7 +16,7 @@ use Rattle.format.specs.Counts.{mixed}
 use Rattle.format.proofs.Tests.{test, and-true}
 use Rattle.scan.specs.Scan.{IsByte, FirstOther, FirstDifference}
 
--- ---- pixels by place
+-- Pixels by place.
 
 -- Pixels from a place on, the first taken off.
 pub take-drop : (b : List ℕ) (n i : ℕ) → 0 < n → i < length b → take n (drop i b) ≡ getD b i 0 ∷ take (n - 1) (drop (i + 1) b)
@@ -38,7 +38,7 @@ row-plain b w at x l h =
     let k : i < w = omega arith in
     row-pixel b w at i k ∙ h i k .is ∙ sym (getD-replicate w i x 0 k)
 
--- ---- mixed rows
+-- Mixed rows.
 
 all-same : (x n : ℕ) → all x (replicate n x) ≡ true
 unfolding all
@@ -80,7 +80,7 @@ mixed-one (suc (suc x)) w h = lt-ltb 1 (suc (suc x)) (omega arith) ∙ mixed-bot
 pub mixed-plain : {b : List ℕ} {at w x k : ℕ} → 0 < w → at + w ≤ length b → FirstOther b at w x k → w ≤ k → ltb 1 x ≡ mixed (take w (drop at b))
 mixed-plain {b} {at} {w} {x} {k} p l f h = mixed-one x w p ∙ ap mixed (sym (row-plain b w at x l (λ i g. f .below i (omega arith))))
 
--- ---- equal rows
+-- Equal rows.
 
 -- Rows that are the same are equal.
 pub same-is : (r s : List ℕ) → same r s ≡ true → r ≡ s

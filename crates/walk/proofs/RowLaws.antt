@@ -15,7 +15,7 @@ use Rattle.format.proofs.Tests.{test}
 use Rattle.walk.specs.Walk.{rowsFrom, RowAt, Removal}
 use Rattle.walk.proofs.PixelLaws.{same-is, same-self}
 
--- ---- the rows from a place on
+-- The rows from a place on.
 
 -- Where k whole rows are left, they are the rows.
 pub rows-are : (b : List ℕ) (w at k : ℕ) → 0 < w → at + k * w ≡ length b → rowsFrom b w at ≡ rows w k (drop at b)
@@ -42,7 +42,7 @@ rows-first b w at (suc k) p e h =
     rows-are b w at (suc k) p e
     ∙ ap (λ (l : List (List ℕ)). take w (drop at b) ∷ l) (ap (rows w k) (drop-drop w at b) ∙ sym (rows-are b w (at + w) k p (omega arith)))
 
--- ---- which rows are kept
+-- Which rows are kept.
 
 -- The row r is not equal to the first of the rows, or not mixed.
 abbrev Apart : List ℕ → List (List ℕ) → Type 0
@@ -92,7 +92,7 @@ pub kept-first : (r : List ℕ) (rs : List (List ℕ)) → (n : ℕ) × (l : Lis
 unfolding kept
 kept-first r rs = above-first r (kept rs)
 
--- ---- the loop
+-- The loop.
 
 -- The n rows under the one at a place, up to `next`, are equal to it.
 pub record Equal (b : List ℕ) (w at next n : ℕ) : Type 0 where

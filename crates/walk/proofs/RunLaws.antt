@@ -18,7 +18,7 @@ use Rattle.walk.specs.declared.Count.the-variants as C
 use Rattle.walk.specs.Walk.{left, itemsLeft, Inside, Next, Counted, Entered, Standing, ahead, begun, Open, Closed, Ended, InRow, full, some}
 use Rattle.walk.proofs.LeftLaws.{left-over, room, left-begun, Other, other-in, other-next}
 
--- ---- runs
+-- Runs.
 
 -- A pixel before a run of another colour begins a run; one before a run of its colour makes it longer.
 grow-grow : (x m y n : ℕ) (rs : List Run) → (y ≡ x → ⊥) → grow (pixel x m) (grow (pixel y n) rs) ≡ stretch x 1 m ∷ grow (pixel y n) rs
@@ -67,7 +67,7 @@ begun-more x (suc k) n m r h z =
     ∙ ap (λ (l : List Pixel). pixel x m ∷ l) (replicate-append-replicate k n (pixel x 0))
     ∙ ap (λ (i : ℕ). begun x i m) e ∙ ap (begun x (suc k + n)) f
 
--- ---- the loop
+-- The loop.
 
 -- The run of x that has k pixels before c, with the repeat m before it, has n pixels up to d, with the repeat r.
 pub record Running (b : List ℕ) (w x k m : ℕ) (c : Cursor) (n r : ℕ) (d : Cursor) : Type 0 where
@@ -214,7 +214,7 @@ closed-over {b} {w} {x} {k} {m} {n} {r} {c} {d} g l = elim (decLe 1 n) [
 pub shorter : {b : List ℕ} {w : ℕ} {d e : Cursor} → Inside b w d → Entered b w d e → length b - e .end < length b - d .end
 shorter {b} {w} {d} {e} i n = omega (arith, row-in (n .inside), n .end, i .after, i .wide)
 
--- ---- the count list
+-- The count list.
 
 -- A run is next.
 closed-items : {b : List ℕ} {w x k m n r : ℕ} {c d e : Cursor} → Running b w x 0 0 c k m d → Closed b w x k m d n r e → Next b w c n r e

@@ -55,7 +55,7 @@ Counted b w c C.Done = itemsLeft b w c ≡ []
 abbrev pub begin : Cursor
 begin = record { at = 0; end = 0; next = 0; owed = 0; before = 0 }
 
--- ---- the inner functions
+-- The inner functions.
 
 -- A row begins at a place.
 pub record RowAt (b : List ℕ) (w at : ℕ) : Type 0 where

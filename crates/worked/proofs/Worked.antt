@@ -5,7 +5,7 @@ use mathlib.Core.Path.{refl}
 use mathlib.Core.List.{List, [], _∷_}
 use lib.IntN.{pos, negsuc}
 use lib.ListN.{replicate}
-use Rattle.format.proofs.Questions.{Question, reads, writes, size, chooses, checks, draws, packs, lists, Reply, it, list, character, lines, refusal, reply, Given, font, plain, short, letter, letterMeasures, letterPacket}
+use Rattle.format.proofs.Questions.{Question, reads, writes, size, chooses, draws, packs, lists, Reply, it, list, character, lines, refusal, reply, Given, font, plain, short, letter, letterMeasures, letterPacket}
 
 -- code 4, w = h = 2, all else zero
 abbrev two : List ℕ → Reply

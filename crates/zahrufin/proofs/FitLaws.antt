@@ -19,7 +19,7 @@ use Rattle.format.proofs.CutTheorems.{counts-chars}
 use Rattle.format.proofs.FaultTheorems.{refusal-means}
 use Rattle.format.proofs.PackTheorems.{packed-is}
 
--- ---- refusals
+-- Refusals.
 
 -- The numbers are 1 to 20, and no place is behind the piece at fault.
 row-small : (x : Refusal) (at : ℕ) → (numberAndPlace x at .0 ≤ 20) × (numberAndPlace x at .1 ≤ at)
@@ -58,7 +58,7 @@ told-fits (refused x at) n p l e =
     let t = row-small x at in
     (omega (arith, t .0), omega (arith, t .1, l))
 
--- ---- the places of each call
+-- The places of each call.
 
 means-near : (s : List ℕ) (x : Refusal) (at : ℕ) → Means s x at → at ≤ 65536
 means-near s _ _ (overLong l) = omega arith
@@ -101,7 +101,7 @@ pack-near : (b : List ℕ) (m : Measures) (buffer : List ℕ) → IfRefused Near
 unfolding packAnswer pack
 pack-near b m buffer = refused-answers Near length (pack b m (length buffer)) (at-0-near (packed b m (length buffer)))
 
--- ---- counts and lengths
+-- Counts and lengths.
 
 -- A packet has a byte; no more packets than bytes.
 some-byte : (p : Packet) → 1 ≤ length (bytesOf (packet p))
@@ -116,7 +116,7 @@ packets-few (numeric xs ∷ ps) = let i = packets-few ps in let j = length-appen
 packets-few (noop ∷ ps) = let i = packets-few ps in let j = length-append (bytesOf noop) (flat ps) in omega arith
 packets-few (packet p ∷ ps) = let i = packets-few ps in let j = length-append (bytesOf (packet p)) (flat ps) in omega (arith, some-byte p)
 
--- ---- what C is handed fits
+-- What C is handed fits.
 
 pub chars-fit : (s : List ℕ) (n : ℕ) → Bytes s → says n ≡ told (check s) → n < 2 ^ 32
 unfolding told join

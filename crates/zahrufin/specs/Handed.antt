@@ -44,15 +44,17 @@ plainOf m =
 abbrev pub noMeasures : PlainMeasures
 noMeasures = record { code = pos 0; w = pos 0; h = pos 0; tfm = pos 0; dx = pos 0; dy = pos 0; hoff = pos 0; voff = pos 0 }
 
--- The three answers.
+-- zahrufin_checked: the number of characters, or the refusal and its place.
 unfoldable pub checkedFor : Told ℕ → PlainChecked
 checkedFor (says n) = record { refusal = 0; place = 0; chars = n }
 checkedFor (refuses x place) = record { refusal = x; place = place; chars = 0 }
 
+-- zahrufin_drawn: the measures, or the refusal and its place.
 unfoldable pub drawnFor : Told F.Measures → PlainDrawn
 drawnFor (says m) = record { refusal = 0; place = 0; measures = plainOf m }
 drawnFor (refuses x place) = record { refusal = x; place = place; measures = noMeasures }
 
+-- zahrufin_packed: the packet's length, or the refusal and its place.
 unfoldable pub packedFor : Told ℕ → PlainPacked
 packedFor (says n) = record { refusal = 0; place = 0; length = n }
 packedFor (refuses x place) = record { refusal = x; place = place; length = 0 }
