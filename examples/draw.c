@@ -25,6 +25,7 @@ static size_t read_font(const char *path) {
     return n;
 }
 
+/* The pixels as rows of stars and points. */
 static void print_rows(int64_t w, int64_t h) {
     for (int64_t row = 0; row < h; row++) {
         for (int64_t column = 0; column < w; column++)
@@ -33,6 +34,7 @@ static void print_rows(int64_t w, int64_t h) {
     }
 }
 
+/* Draws the character, packs it again, and says what came of it. */
 int main(int argc, char **argv) {
     char *end = NULL;
     uint64_t code = argc == 3 ? strtoull(argv[2], &end, 10) : 0;

@@ -3,7 +3,8 @@
  * (measured, not proved).
  *
  * Every call takes any bytes, any numbers and any lengths, ends, allocates nothing, keeps no pointer, calls nothing but memcpy and memset,
- * and has no state: calls from several threads do not disturb one another. What each answers is proved; docs/TRUST.md says what that rests on.
+ * which the program that links it must have, and has no state: calls from several threads do not disturb one another. What each answers is
+ * proved; docs/TRUST.md says what that rests on.
  *
  * What the caller owes: a pointer is not NULL, also where its length is 0; as many bytes as the length says can be read there, and in a
  * buffer written; nobody else writes to them during the call, or reads a buffer that is written; and such a buffer overlaps nothing else
@@ -57,30 +58,40 @@ enum {
 #define ZAHRUFIN_PIXELS_MAX 65536
 #define ZAHRUFIN_PACKET_MAX 8229
 
-/* What is said of a character: its code; width and height in pixels; TFM width, as the font holds it; horizontal and vertical
+/* What is said of a character: its code; width and height in pixels; TFM width, as the font holds it, passed on and never used; horizontal and vertical
  * escapement in pixels times 65,536, with the font's sign; the way from the upper left pixel to the reference pixel, in pixels, right and down positive. */
 typedef struct {
     int64_t code, w, h, tfm, dx, dy, hoff, voff;
 } zahrufin_measures;
 
+/* refusal 0: accepted, with the number of characters. */
 typedef struct {
     uint32_t refusal, place, chars;
 } zahrufin_checked;
 
+/* refusal 0: drawn, with the measures. */
 typedef struct {
     uint32_t refusal, place;
     zahrufin_measures measures;
 } zahrufin_drawn;
 
+/* refusal 0: packed, with the packet's length in bytes. */
 typedef struct {
     uint32_t refusal, place, length;
 } zahrufin_packed;
+
+/* The layout that the archive has. */
+#if defined(__STDC_VERSION__) && __STDC_VERSION__ >= 201112L
+_Static_assert(sizeof(zahrufin_measures) == 64 && sizeof(zahrufin_checked) == 12, "no other layout is served");
+_Static_assert(sizeof(zahrufin_drawn) == 72 && sizeof(zahrufin_packed) == 12, "no other layout is served");
+#endif
 
 /* Checks a whole font: the number of its characters, or refusal 1 to 15. */
 zahrufin_checked zahrufin_check(const uint8_t *font, size_t font_len);
 
 /* Draws a code of a font, which is checked first: the measures, with the pixels in the first w * h bytes, a byte to each pixel, 0 white and
- * 1 black, rows from the top, left to right, no gaps; bytes beyond stay. Or refusal 1 to 17. A buffer of 65,536 bytes has room for each. */
+ * 1 black, rows from the top, left to right, no gaps; bytes beyond stay. Or refusal 1 to 17. A buffer of 65,536 bytes has room for each.
+ * Each drawing checks the whole font anew: its time grows with the font (docs/SPEED.md). */
 zahrufin_drawn zahrufin_draw(const uint8_t *font, size_t font_len, uint64_t code, uint8_t *pixels, size_t pixels_len);
 
 /* Packs a bitmap of w * h such pixels: the packet's length, flag included, with the packet in as many bytes; bytes beyond stay. Or refusal

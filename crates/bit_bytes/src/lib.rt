@@ -36,7 +36,7 @@ fn whole(b: &[u8], i: usize) -> usize
     64 * two(b, i) + 16 * two(b, i + 2) + 4 * two(b, i + 4) + two(b, i + 6)
 }
 
-// Eight pixels from i on as a byte.
+// Eight pixels from i on as a byte, white behind the last.
 fn eight(b: &[u8], i: usize) -> usize
     requires { ⌜ (allPixels (now b) ≡ true) × (i < length (now b)) ⌝ }
     ensures { λ r. ⌜ (r ≡ byteOf 0 8 (drop i (now (b .entry)))) × (r < 256) ⌝ }

@@ -14,7 +14,7 @@ pub enum Item {
     Fault(Refusal),
 }
 
-// A packed number as a run, and as a repeat.
+// A packed number as a run.
 fn as_run(read: Read) -> Item
     ensures { λ r. ⌜ r ≡ asRun read ⌝ }
 {
@@ -25,6 +25,7 @@ fn as_run(read: Read) -> Item
     }
 }
 
+// A packed number as a repeat.
 fn as_repeat(read: Read) -> Item
     ensures { λ r. ⌜ r ≡ asRepeat read ⌝ }
 {

@@ -71,7 +71,7 @@ pub fn print_marked(bytes: &[u8], n: usize) {
     print_touched(bytes, n);
 }
 
-// The pixels of w by h, as far as a buffer holds them.
+// The pixels of w by h, and 0 where w or h is above 65,536.
 pub fn area(w: u64, h: u64) -> usize
     ensures { λ r. ⌜ r ≡ areaOf w h ⌝ }
 {

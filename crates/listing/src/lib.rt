@@ -1,6 +1,5 @@
 // What is listed of a font: its heading, and its packets in file order, one at a time.
 ghost use mathlib.Core.Path.{_≡_};
-ghost use lib.ListN.{length};
 ghost use Rattle.format.specs.Refusals.{told};
 ghost use Rattle.format.specs.Listing.{headingAnswer};
 ghost use Rattle.packet.specs.Standing.{StandsAt};

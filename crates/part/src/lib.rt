@@ -1,7 +1,4 @@
 // A part of the count list of a bitmap, kept in two lent arrays: most bitmaps are walked once, and the walk is called from one place.
-ghost use Prim.Native.Nat.{_<_};
-ghost use mathlib.Core.Path.{_≡_};
-ghost use lib.ListN.{length};
 ghost use Rattle.walk.specs.Walk.{begin, Inside};
 ghost use Rattle.part.specs.Parts.{Room, Kept, First};
 use walk::Count;
@@ -34,7 +31,7 @@ pub fn part_from(
         lengths[n] = k as u32;
         repeats[n] = m as u32;
         n += 1;
-        // Field by field: of the whole the bytes between its fields would be copied too.
+        // Field by field, since a copy of the whole would copy its padding too.
         d = Cursor {
             at: e.at,
             end: e.end,

@@ -3,7 +3,7 @@ ghost use Prim.Native.Nat.{_<_};
 ghost use mathlib.Core.Path.{_≡_};
 ghost use lib.Signed.{mag};
 
-// n for n, and for -(n + 1): the least number of 64 bits has one too.
+// z itself, or n for -(n + 1), so that the least number of 64 bits has a magnitude too.
 pub fn magnitude(z: i64) -> u64
     ensures { λ r. ⌜ (r ≡ mag z) × (r < 9223372036854775808) ⌝ }
 {

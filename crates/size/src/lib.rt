@@ -205,6 +205,7 @@ pub fn choose(
     let bits = (b.len() + 7) / 8;
     let start = walk::start();
     if w == 0 {
+        // A full part is not taken for the whole list: nothing is kept.
         let first = Part {
             n: 512,
             cursor: start,

@@ -12,7 +12,6 @@ use font::Checked;
 use glyph::Drawn;
 use measures::Measures;
 use pack::Packed;
-use refusals::Refusal;
 
 // zahrufin_measures.
 #[repr(C)]

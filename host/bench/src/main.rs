@@ -1,9 +1,9 @@
 //! Times the proved library beside the independent implementation.
 //!
 //! `bench [FOLDER]` times all three calls on each real font.
-//! `bench --only ours|reference check|draw|pack FONT REPEATS` makes only these passes, for a counter
-//! of instructions. Drawing the characters beforehand is counted too: take the difference of two
-//! REPEATS.
+//! `bench --only ours|reference check|draw|pack FONT REPEATS` makes only these passes, on a font of the
+//! table or on a file, for a counter of instructions. Drawing the characters beforehand is counted
+//! too: take the difference of two REPEATS.
 
 #![forbid(unsafe_code)]
 
@@ -44,12 +44,8 @@ fn only(with: &str, call: &str, font: &str, repeats: &str) {
     let (Some(with), Some(call), Ok(repeats)) = (with, call, repeats.parse::<usize>()) else {
         usage()
     };
-    let bytes = std::fs::read(font).unwrap_or_else(|error| {
-        eprintln!("{font}: {error}");
-        exit(2);
-    });
-    let work = Work::new(font.to_string(), bytes).unwrap_or_else(|refusal| {
-        eprintln!("{font}: {refusal:?}");
+    let work = Work::new(font.to_string(), bytes_of(font)).unwrap_or_else(|refusal| {
+        eprintln!("{font}: {refusal}");
         exit(2);
     });
     let mut buffer = vec![0; 65_536];
@@ -57,6 +53,18 @@ fn only(with: &str, call: &str, font: &str, repeats: &str) {
         black_box(work.pass(with, call, &mut buffer));
     }
     println!("{repeats} passes of {} glyphs", work.glyphs());
+}
+
+/// The bytes of a font of the table, or of a file.
+fn bytes_of(font: &str) -> Vec<u8> {
+    let named = fonts::real_fonts(None).into_iter().find(|f| f.name == font);
+    if let Some(named) = named {
+        return named.bytes;
+    }
+    std::fs::read(font).unwrap_or_else(|error| {
+        eprintln!("{font}: {error}");
+        exit(2);
+    })
 }
 
 /// Times all fonts and prints a table.
@@ -67,6 +75,7 @@ fn table(folder: Option<&str>) {
         exit(2);
     }
     println!("nanoseconds per glyph: ours, reference, ours / reference");
+    println!("(one check serves all glyphs of a font)");
     print!("{:24}{:>6}", "font", "glyphs");
     let [check, draw, pack] = Call::ALL.map(Call::name);
     println!("{check:>26}{draw:>26}{pack:>26}");
@@ -91,7 +100,7 @@ fn works(folder: Option<&str>) -> Vec<Work> {
     let works = fonts.into_iter().filter_map(|font| {
         let refused = font.name.clone();
         Work::new(font.name, font.bytes)
-            .map_err(|refusal| println!("{refused} is left out: refusal {}", refusal.number))
+            .map_err(|refusal| println!("{refused} is left out: {refusal}"))
             .ok()
     });
     works.collect()

@@ -8,7 +8,7 @@ use crate::rasters::{hostile, legal, Raster};
 pub struct Made {
     pub bytes: Vec<u8>,
     pub pieces: Vec<usize>,
-    /// Place and length of each many-byte number, of each flag and of each code.
+    /// Place and length of each number, and of each piece's first byte.
     pub fields: Vec<(usize, usize)>,
     /// Code and number of pixels of each packet.
     pub characters: Vec<(u8, usize)>,

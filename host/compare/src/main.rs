@@ -75,9 +75,18 @@ fn argument(which: usize, other: u64) -> u64 {
     }
 }
 
-/// Runs the case whose number the harness holds.
+/// Runs the case whose number the harness holds: the first two are the same for each seed but for the codes drawn.
 fn run_case(harness: &mut Harness, fonts: &[Real]) {
     let random = &mut Random::new(harness.seed, harness.case);
+    match harness.case {
+        0 => reading::every_truncation(random, harness, fonts),
+        1 => reading::every_bit(random, harness, fonts),
+        _ => random_case(random, harness, fonts),
+    }
+}
+
+/// Runs a case of a kind that is drawn by lot.
+fn random_case(random: &mut Random, harness: &mut Harness, fonts: &[Real]) {
     match random.below(1000) {
         0..=119 => reading::legal_font(random, harness),
         120..=269 => reading::hostile_font(random, harness),

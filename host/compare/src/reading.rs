@@ -5,6 +5,9 @@ use crate::harness::{Harness, Lent};
 use crate::made::{self, Made};
 use crate::random::Random;
 
+/// A real font of at most so many bytes is damaged at every place; longer ones are by lot.
+const SHORT: usize = 2_000;
+
 /// A font from a file, with the code and number of pixels of each character.
 pub struct Real {
     bytes: Vec<u8>,
@@ -70,6 +73,30 @@ pub fn truncated_font(random: &mut Random, harness: &mut Harness) {
     }
 }
 
+/// Each short real font cut off at every length; what was cut off stands after it in memory.
+pub fn every_truncation(random: &mut Random, harness: &mut Harness, fonts: &[Real]) {
+    for font in fonts.iter().filter(|font| font.bytes.len() <= SHORT) {
+        for length in 0..font.bytes.len() {
+            let (bytes, after) = font.bytes.split_at(length);
+            let _ = harness.check(Lent { bytes, after });
+            draw_some(random, harness, bytes, &font.characters);
+        }
+    }
+}
+
+/// Each short real font with each of its bits turned.
+pub fn every_bit(random: &mut Random, harness: &mut Harness, fonts: &[Real]) {
+    for font in fonts.iter().filter(|font| font.bytes.len() <= SHORT) {
+        let mut bytes = font.bytes.clone();
+        for at in 0..8 * bytes.len() {
+            bytes[at / 8] ^= 1 << (at % 8);
+            let _ = harness.check(bytes[..].into());
+            draw_some(random, harness, &bytes, &font.characters);
+            bytes[at / 8] ^= 1 << (at % 8);
+        }
+    }
+}
+
 /// A small font with each of its bytes changed in turn.
 pub fn swept_font(random: &mut Random, harness: &mut Harness) {
     let mut made = made::small_font(random);
@@ -113,9 +140,6 @@ pub fn few_bytes(random: &mut Random, harness: &mut Harness) {
 
 /// A font from a file, mostly with damage.
 pub fn real_font(random: &mut Random, harness: &mut Harness, fonts: &[Real]) {
-    if fonts.is_empty() {
-        return;
-    }
     let font = &fonts[random.below(fonts.len())];
     let mut bytes = font.bytes.clone();
     if !random.one_in(20) {
