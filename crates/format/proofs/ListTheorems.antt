@@ -41,10 +41,10 @@ heading_refused s x place = (there (verdict s), back (verdict s))
 length-entries : (at : ℕ) (ps : List Piece) → length (entries at ps) ≡ length (packets ps)
 unfolding entries packets
 length-entries at [] = refl
-length-entries at (special k xs ∷ ps) = length-entries _ ps
-length-entries at (numeric xs ∷ ps) = length-entries _ ps
-length-entries at (noop ∷ ps) = length-entries _ ps
-length-entries at (packet p ∷ ps) = ap suc (length-entries _ ps)
+length-entries at (special k xs ∷ ps) = length-entries (at + length (bytes_of (special k xs))) ps
+length-entries at (numeric xs ∷ ps) = length-entries (at + length (bytes_of (numeric xs))) ps
+length-entries at (noop ∷ ps) = length-entries (at + length (bytes_of noop)) ps
+length-entries at (packet p ∷ ps) = ap suc (length-entries (at + length (bytes_of (packet p))) ps)
 
 pub entries_chars : (x : Parts) → length (entries_of x) ≡ chars x
 entries_chars x = length-entries (length (preamble_bytes x.preamble)) x.pieces

@@ -107,6 +107,7 @@ step_tells (b ∷ t) =
 
 packet_checked : (place : ℕ) (seen s : List ℕ) (p : Packet) → Shown s p → PacketOk p → Bytes p.raster → IfFault (PieceFault place seen s) (checked seen (p ∷ []))
 unfolding checked
+packet_checked place seen [] p x o hs = elim x [ ]
 packet_checked place seen (b ∷ t) p (shown f c) o hs =
     need_case (IfFault (PieceFault place seen (b ∷ t))) (not (elem p.code seen)) code_twice _ (λ e. twice c (not-false (elem p.code seen) e)) λ e.
     fault_to (items p.f p.w p.h p.raster)

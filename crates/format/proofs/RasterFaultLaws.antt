@@ -131,6 +131,7 @@ module _ (f w h : ℕ) (hf : f ≤ 13) where
       (λ t. let e : x ≡ 15 = omega arith in rw e tt)
     where
       again : (ys : List ℕ) → Marked ys → Second s (14 ∷ ys)
+      again [] m = elim m [ ]
       again (y ∷ ys) (marked q) = for_number q
 
       go : (g : Got) → Says (λ ys. decode f (xs ++ ys)) (Marked xs) g → IfFault {A = Item × List ℕ} (Fault f w h s (14 ∷ xs)) (number_of g >>= λ t. ok (fourteen t.0, t.1))

@@ -57,8 +57,8 @@ module _ (w k : ℕ) (of : ℕ → List ℕ) (row s : List ℕ) (e : length row 
   row_on {h} o g =
       record {
         whole = omega (arith, g.whole, length-append row s);
-        once = λ r. elim r [ zero ↦ o | suc r ↦ g.once r ];
-        inside = λ r. elim r [ zero ↦ λ l. absurd (omega arith) | suc r ↦ λ l. g.inside r (omega arith) ];
+        once = λ r. elim r as (λ m. length (of m) ≤ 1) [ zero ↦ o | suc r ↦ g.once r ];
+        inside = λ r. elim r as (λ m. suc k ≤ m → of m ≡ []) [ zero ↦ λ l. absurd (omega arith) | suc r ↦ λ l. g.inside r (omega arith) ];
         high = omega (arith, g.high, sent_length);
       }
 
@@ -96,7 +96,7 @@ had_sum (suc n) = omega arith
 -- at the start
 pub from_start : (w : ℕ) (is : List Item) → from w 0 0 is ≡ repeats w 0 is
 unfolding from
-from_start w is = fun_ext (λ r. elim r [ zero ↦ refl | suc r ↦ refl ])
+from_start w is = fun_ext (λ r. elim r as (λ m. from w 0 0 is m ≡ repeats w 0 is m) [ zero ↦ refl | suc r ↦ refl ])
 
 -- after the items
 pub from_end : (w p rep : ℕ) → from w p rep [] 0 ≡ had rep
@@ -144,4 +144,4 @@ from_past w p (suc rep) is h = rw (repeats_past w p is h) refl
 
 pub from_later : (w p rep : ℕ) (is : List Item) → 0 < w → (λ (r : ℕ). from w (w + p) rep is (suc r)) ≡ from w p 0 is
 unfolding from
-from_later w p rep is h = fun_ext (λ r. repeats_later w p is r h ∙ elim r [ zero ↦ refl | suc r ↦ refl ])
+from_later w p rep is h = fun_ext (λ r. repeats_later w p is r h ∙ elim r as (λ m. repeats w p is m ≡ from w p 0 is m) [ zero ↦ refl | suc r ↦ refl ])
