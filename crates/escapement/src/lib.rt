@@ -1,4 +1,6 @@
 // The two counts of an escapement, which are never taken for one another.
+#![tactic(auto)]
+
 ghost use Rattle.std.specs.Prelude.{◌≡◌};
 ghost use Rattle.format.specs.Measures.{to_scaled, whole_pixels};
 ghost use Rattle.escapement.specs.Count.{whole_of, scaled_of, capped};

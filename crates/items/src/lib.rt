@@ -1,4 +1,6 @@
 // The items of a raster: a run or a repeat, with the place of the nybble after it.
+#![tactic(auto)]
+
 ghost use Rattle.std.specs.Prelude.{◌≤◌, ◌≡◌};
 ghost use Rattle.format.specs.Reading.{item_of};
 ghost use Rattle.packed.specs.Answer.{from};

@@ -1,4 +1,6 @@
 // A raster judged without drawing: that it fills its pixels to the last one, or its first fault.
+#![tactic(auto)]
+
 ghost use Rattle.std.specs.Prelude.{◌*◌, ◌^◌, ◌≤◌, ◌≡◌, true, length};
 ghost use Rattle.format.specs.Limits.{in_limits};
 ghost use Rattle.format.specs.Rasters.{bytes_of_bits};

@@ -1,4 +1,6 @@
 // Packed numbers: one is read from the nybbles of a slice, however many zeros and digits it has.
+#![tactic(auto)]
+
 ghost use Prim.Native.Nat.{◌*◌, ◌≤◌, ◌<◌};
 ghost use Rattle.std.specs.Prelude.{◌≡◌, length};
 ghost use Rattle.format.specs.Packed.{limit};

@@ -1,4 +1,5 @@
 // The refusals of 01's table: each is its number, and has a name.
+#![tactic(auto)]
 
 // The number of a row.
 #[derive(Drop)]

@@ -1,4 +1,6 @@
 // The state within a raster, by value: where the next pixel stands, and what its row has had.
+#![tactic(auto)]
+
 ghost use Rattle.std.specs.Prelude.{◌+◌, ◌*◌, ◌/◌, ◌≤◌, ◌<◌, ◌≡◌, not};
 ghost use Rattle.format.specs.Reading.{start, row_ends, advanced, with_repeat, after_run, after_repeat};
 ghost use Rattle.state.specs.Moves.{plain, coloured, moved_to, Within};
