@@ -12,5 +12,5 @@ returns c =
     c.number_at-dm.ensures
     c.scaled.ensures
     c.scaled-2.ensures
-    (record { fits = record { sfits = c.signed_at-hoff.type-inv }; is = c.signed_at-hoff.ensures })
-    (record { fits = record { sfits = c.signed_at-voff.type-inv }; is = c.signed_at-voff.ensures })
+    (record { fits = record { sfits = c.signed_at-hoff.type_inv }; is = c.signed_at-hoff.ensures })
+    (record { fits = record { sfits = c.signed_at-voff.type_inv }; is = c.signed_at-voff.ensures })

@@ -9,5 +9,5 @@ pub returns : goal.returns
 returns c =
     let f1 = c.fill_run-2 in
     let cr = c.copy_rows-next in
-    run_full _ _ _ _ _ f1.new.0 cr.new.0 _ _ cr.result c.pixel-v.ensures (omega arith) (omega arith) (omega arith)
+    run_full _ _ _ _ _ f1.new.buf cr.new.buf _ _ cr.result c.pixel-v.ensures (omega arith) (omega arith) (omega arith)
     f1.ensures cr.ensures.0 cr.ensures.1 c.fill_run-3.ensures
