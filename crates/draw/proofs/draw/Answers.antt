@@ -9,7 +9,7 @@ draw_accepted-requires c =
 
 pub returns-in-Refused : goal.returns-in-Refused
 returns-in-Refused c =
-    (
-      refused_answer _ _ _ _ _ _ c.in-Refused.is c.check-checked.ensures,
-      refused_pixels _ _ _ _ _ _ c.in-Refused.is c.check-checked.ensures,
-    )
+    record {
+      result_value = refused_answer _ _ _ _ _ _ c.in-Refused.is c.check-checked.ensures;
+      pixels_after = refused_pixels _ _ _ _ _ _ c.in-Refused.is c.check-checked.ensures;
+    }
