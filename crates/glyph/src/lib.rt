@@ -1,4 +1,6 @@
 // The packet at a place, drawn into a lent buffer.
+#![tactic(auto)]
+
 ghost use Rattle.packet.specs.Standing.{Drawable};
 ghost use Rattle.glyph.specs.Packets.{IsDrawn, IsPixels};
 
@@ -7,7 +9,7 @@ use packet::Outline;
 use refusals::Refusal;
 
 // The measures of a drawn character, or a refusal with its place.
-#[derive(Drop)]
+#[derive(Clone, Copy)]
 pub enum Drawn {
     Measured(Measures),
     Refused(Refusal, usize),

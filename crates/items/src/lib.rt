@@ -10,7 +10,7 @@ use packed::Read;
 use refusals::Refusal;
 
 // A run or a repeat of a number, 65,537 for any above 65,536, and the place of the next nybble; or the fault that stands there.
-#[derive(Drop)]
+#[derive(Clone, Copy)]
 pub enum Item {
     Run(usize, usize),
     Repeat(usize, usize),

@@ -1,4 +1,6 @@
 // What is listed of a font: its heading, and its packets in file order, one at a time.
+#![tactic(auto)]
+
 ghost use Rattle.std.specs.Prelude.{◌≡◌};
 ghost use Rattle.format.specs.Refusals.{told};
 ghost use Rattle.format.specs.Listing.{heading_answer};
@@ -12,7 +14,7 @@ use packet::{Outline, Piece};
 use refusals::Refusal;
 
 // The form of a packet.
-#[derive(Drop)]
+#[derive(Clone, Copy)]
 pub enum Form {
     Short,
     Extended,
@@ -20,7 +22,7 @@ pub enum Form {
 }
 
 // The file's length, the preamble's numbers, and the number of packets.
-#[derive(Drop)]
+#[derive(Clone, Copy)]
 pub struct Heading {
     pub bytes: usize,
     pub ds: i64,
@@ -31,14 +33,14 @@ pub struct Heading {
 }
 
 // The heading and the place behind the preamble, or a refusal with its place.
-#[derive(Drop)]
+#[derive(Clone, Copy)]
 pub enum Listed {
     Font(Heading, usize),
     Refused(Refusal, usize),
 }
 
 // A packet: the place of its flag, its form, f and black bit, and its measures.
-#[derive(Drop)]
+#[derive(Clone, Copy)]
 pub struct Entry {
     pub at: usize,
     pub form: Form,
@@ -48,7 +50,7 @@ pub struct Entry {
 }
 
 // The next packet and the place behind it, or that no packet follows.
-#[derive(Drop)]
+#[derive(Clone, Copy)]
 pub enum Next {
     Packet(Entry, usize),
     End,

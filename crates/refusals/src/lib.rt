@@ -2,7 +2,7 @@
 #![tactic(auto)]
 
 // The number of a row.
-#[derive(Drop)]
+#[derive(Clone, Copy)]
 pub struct Refusal(pub usize);
 
 impl Refusal {

@@ -18,6 +18,3 @@ returns c =
     let v = c.values_of in
     bits_whole _ _ _ (omega arith) (omega arith) (omega arith) c.wide-last.result c.wide-last.ensures.0 c.wide-last.ensures.1 v.result v.ensures (omega arith)
 
--- no goal Need-nonzero-rem-if3
--- rem-if3 : tie.Need-nonzero-rem-if3
--- rem-if3 c = value_some _ _ c.values_of.ensures
