@@ -1,0 +1,24 @@
+use Prim.Native.Nat.{◌-◌}
+use mathlib.Core.Path.{◌≡◌}
+use mathlib.Core.Logic.{⊎_elim}
+use native.Mathlib.Omega.{arith}
+use Rattle.size.proofs.ChosenLaws.{best_start, best_keep, best_take}
+use Rattle.size.proofs.least_of.Goals as goal
+
+pub loop-f-init : goal.loop-f-init
+loop-f-init c = (omega arith, best_start _)
+
+pub offset_bounds-t-best : goal.offset_bounds-t-best
+offset_bounds-t-best c = omega (arith, c.loop-f.invariant.1.inside)
+
+pub bounds-t-best : goal.bounds-t-best
+bounds-t-best c = omega (arith, c.loop-f.invariant.1.inside)
+
+pub loop-f-preserved : goal.loop-f-preserved
+loop-f-preserved c = (
+  omega arith,
+  ?,
+)
+
+pub returns : goal.returns
+returns c = let e : c.loop-f.f ≡ 14 = omega arith in rw e at c.loop-f.invariant.1
