@@ -5,7 +5,7 @@ use Rattle.size.proofs.ChosenLaws.{counted, choose_none, choose_bits, choose_run
 use Rattle.size.proofs.choose.Goals as goal
 
 pub returns-then-w-eq0 : goal.returns-then-w-eq0
-returns-then-w-eq0 c = let p = c.requires in (choose_none _ _ _ _ c.if-w-eq0.true p.1 refl refl, record { room = p.2; whole = λ h. absurd (omega arith) })
+returns-then-w-eq0 c = let p = c.requires in record { chosen = choose_none _ _ _ _ c.if-w-eq0.true p.1 refl refl; first = record { room = p.2; whole = λ h. absurd (omega arith) } }
 
 pub part_from-first-requires : goal.part_from-first-requires
 part_from-first-requires c = let p = c.requires in (rw c.start-start.ensures (begin_inside _ _ _ (omega arith) p.0 p.1), p.2)
@@ -20,10 +20,10 @@ pub returns-then-bits-bytes : goal.returns-then-bits-bytes
 returns-then-bits-bytes c =
     let p = c.requires in
     let s = c.sizes-t.ensures in
-    (choose_bits _ _ _ _ _ _ (omega arith) p.0 p.1 (counted _ (omega arith) p.0 s) c.least_of-f.ensures c.if-bits-bytes.true refl refl, s.first)
+    record { chosen = choose_bits _ _ _ _ _ _ (omega arith) p.0 p.1 (counted _ (omega arith) p.0 s) c.least_of-f.ensures c.if-bits-bytes.true refl refl; first = s.first }
 
 pub returns : goal.returns
 returns c =
     let p = c.requires in
     let s = c.sizes-t.ensures in
-    (choose_runs _ _ _ _ _ (omega arith) p.0 p.1 (counted _ (omega arith) p.0 s) c.least_of-f.ensures c.if-bits-bytes.false refl, s.first)
+    record { chosen = choose_runs _ _ _ _ _ (omega arith) p.0 p.1 (counted _ (omega arith) p.0 s) c.least_of-f.ensures c.if-bits-bytes.false refl; first = s.first }

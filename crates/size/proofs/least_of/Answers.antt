@@ -1,9 +1,9 @@
 use Prim.Native.Nat.{◌-◌}
 use mathlib.Core.Path.{◌≡◌}
-use mathlib.Core.Logic.{⊎_elim}
 use native.Mathlib.Omega.{arith}
 use Rattle.size.proofs.ChosenLaws.{best_start, best_keep, best_take}
 use Rattle.size.proofs.least_of.Goals as goal
+use Rattle.size.proofs.least_of.Goals.{then-t-f, else-t-f}
 
 pub loop-f-init : goal.loop-f-init
 loop-f-init c = (omega arith, best_start _)
@@ -17,7 +17,10 @@ bounds-t-best c = omega (arith, c.loop-f.invariant.1.inside)
 pub loop-f-preserved : goal.loop-f-preserved
 loop-f-preserved c = (
   omega arith,
-  ?,
+  elim c.if-t-f.branch [
+    | then-t-f w ↦ rw w.best-is (best_take c.loop-f.invariant.1 w.if-t-f.true)
+    | else-t-f w ↦ rw w.best-is (best_keep c.loop-f.invariant.1 w.if-t-f.false)
+  ],
 )
 
 pub returns : goal.returns
