@@ -18,4 +18,4 @@ overflow_add-result c =
 pub returns : goal.returns
 returns c =
     let p = rw (begin_items c.args.b.now c.args.w c.args.h c.requires.0 c.requires.1) at c.write_nybbles-n.ensures in
-    (halves_end _ _ _ _ p, halves_are _ _ _ _ c.requires.5 p)
+    record { value = halves_end _ _ _ _ p; buf_after = halves_are _ _ _ _ c.requires.5 p }
