@@ -14,7 +14,7 @@ returns-then-f-eq14 c =
     let e = raster_bits c.args.f c.args.w c.args.h c.args.b.now (omega arith) in
     let n = bits_long c.args.f c.args.w c.args.h c.args.b.now (omega arith) in
     let w = c.write_bits in
-    (rw n w.ensures.0, rw e w.ensures.1)
+    record { value = rw n w.ensures.value; buf_after = rw e w.ensures.buf_after }
 
 pub write_runs-requires : goal.write_runs-requires
 write_runs-requires c =
@@ -25,4 +25,4 @@ pub returns : goal.returns
 returns c =
     let e = raster_runs c.args.f c.args.w c.args.h c.args.b.now (λ e. omega arith) in
     let w = c.write_runs in
-    (rw e w.ensures.0, rw e w.ensures.1)
+    record { value = rw e w.ensures.value; buf_after = rw e w.ensures.buf_after }
