@@ -1,9 +1,9 @@
 use Prim.Native.Nat.{◌-◌}
-use mathlib.Core.Logic.{⊎_elim}
 use native.Mathlib.Omega.{arith}
 use Rattle.walk.proofs.RowLaws.{row_whole, equal_start, equal_room, equal_more, equal_stop, equal_end, equal_plain}
 use Rattle.walk.proofs.PixelLaws.{off, on}
 use Rattle.walk.proofs.repeats_of.Goals as goal
+use Rattle.walk.proofs.repeats_of.Goals.{then-n-eq0+else-not-mixed_row, else-n-eq0}
 
 pub overflow_add-next : goal.overflow_add-next
 overflow_add-next c = omega (arith, row_whole c.requires)
@@ -33,7 +33,7 @@ pub loop-next-smaller : goal.loop-next-smaller
 loop-next-smaller c = omega (arith, equal_room c.loop-next.invariant (omega arith), c.loop-next.invariant.wide)
 
 pub loop-next-preserved : goal.loop-next-preserved
-loop-next-preserved c = equal_more c.loop-next.invariant (omega arith) (on c.same_rows.ensures c.if-not-same_rows.false) (⊎_elim (λ v. on v.1.ensures v.2.left) (λ v. c.loop-next.invariant.mix (omega (arith, v.left))) c.if-n-eq0.branch)
+loop-next-preserved c = equal_more c.loop-next.invariant (omega arith) (on c.same_rows.ensures c.if-not-same_rows.false) (elim c.if-n-eq0.branch [ then-n-eq0+else-not-mixed_row w ↦ on w.mixed_row.ensures w.if-not-mixed_row.false | else-n-eq0 w ↦ c.loop-next.invariant.mix (omega arith) ])
 
 pub returns : goal.returns
 returns c = equal_end c.loop-next.invariant (omega arith)
