@@ -71,6 +71,7 @@ pub fn print_marked<W: Write>(out: &mut W, bytes: &[u8], n: usize) -> io::Result
 }
 
 // The pixels of w by h, and 0 where w or h is above 65,536.
+#[tactic(auto, using(crate::proofs::MarkLaws::area_some, crate::proofs::MarkLaws::area_wide, crate::proofs::MarkLaws::area_high))]
 pub fn area(w: u64, h: u64) -> usize
     ensures { result ≡ area_of w h }
 {
