@@ -21,6 +21,7 @@ fn print_line<W: Write>(out: &mut W, checked: Checked) -> io::Result<()> {
 }
 
 // Each font of the cases.
+#[tactic(auto, using(cases::proofs::BlockLaws::whole_stands))]
 fn check_each<W: Write>(out: &mut W, cases: &[u8]) -> io::Result<()> {
     let mut at: usize = 0;
     while at < cases.len() {

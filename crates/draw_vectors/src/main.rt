@@ -87,6 +87,7 @@ fn draw_case<W: Write>(out: &mut W, cases: &[u8], begin: usize, end: usize) -> i
 }
 
 // Each case.
+#[tactic(auto, using(cases::proofs::BlockLaws::whole_stands))]
 fn draw_each<W: Write>(out: &mut W, cases: &[u8]) -> io::Result<()> {
     let mut at: usize = 0;
     while at < cases.len() {

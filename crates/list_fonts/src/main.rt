@@ -8,6 +8,7 @@ use std::io;
 use std::io::{BufWriter, Read, Write};
 
 // Each font of the cases.
+#[tactic(auto, using(cases::proofs::BlockLaws::whole_stands))]
 fn list_each<W: Write>(out: &mut W, cases: &[u8]) -> io::Result<()> {
     let mut at: usize = 0;
     while at < cases.len() {

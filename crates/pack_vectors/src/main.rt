@@ -127,6 +127,7 @@ fn head_of(kind: u8) -> usize
 }
 
 // Each case.
+#[tactic(auto, using(cases::proofs::BlockLaws::whole_stands))]
 fn pack_each<W: Write>(out: &mut W, cases: &[u8]) -> io::Result<()> {
     let mut at: usize = 0;
     while at < cases.len() {
