@@ -92,6 +92,7 @@ fn print_packets<W: Write>(out: &mut W, font: &[u8], first: usize) -> io::Result
 }
 
 // The whole listing of a font; of a refused one its refusal and its place, and nothing else.
+#[tactic(auto, using(listing::proofs::NextLaws::starts_on))]
 pub fn print_listing<W: Write>(out: &mut W, font: &[u8]) -> io::Result<()> {
     let listed = listing::list_font(font);
     match listed {
