@@ -179,7 +179,7 @@ fn open<R: Files>(rt: &R, path: &[u8]) -> Option<R::File> {
 }
 
 // The character of a code that a text names, in the font of a path. A byte more than a font may have is read: no font is cut off.
-// The room is made first, so that where nothing is read it is the file that gives nothing.
+// Its room is made first: where nothing is read, it is not for lack of memory. A read that fails later is an error, and nothing is drawn.
 fn look<R: Files + Alloc, O: Write, E: Write>(
     rt: &R,
     path: &[u8],
