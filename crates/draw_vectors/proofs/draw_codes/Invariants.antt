@@ -1,5 +1,4 @@
 use Prim.Native.Nat.{◌-◌}
-use lib.ListN.{length}
 use Rattle.draw_vectors.proofs.draw_codes.Given as goal
 
 abbrev pub decreases-loop-code : goal.decreases-loop-code

@@ -1,5 +1,4 @@
 use Prim.Native.Nat.{◌-◌}
-use lib.ListN.{length}
 use Rattle.pack_vectors.proofs.repack_each.Given as goal
 
 abbrev pub decreases-loop-code : goal.decreases-loop-code
