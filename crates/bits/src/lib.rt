@@ -1,4 +1,6 @@
 // A raster of bits drawn into a lent buffer, a byte for each pixel.
+#![tactic(auto)]
+
 ghost use Rattle.std.specs.Prelude.{◌+◌, ◌*◌, ◌≤◌, ◌≡◌, ◌++◌, length, take, drop};
 ghost use Rattle.std.proofs.Math.Seq.{paste};
 ghost use Rattle.format.specs.Rasters.{bits_of, bits};

@@ -1,4 +1,6 @@
 // A byte as a number.
+#![tactic(auto)]
+
 ghost use Rattle.std.specs.Prelude.{◌<◌, ◌≡◌};
 
 // The byte, below 256.

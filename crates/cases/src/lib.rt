@@ -3,7 +3,7 @@ ghost use Rattle.std.specs.Prelude.{◌≤◌, ◌≡◌, length};
 ghost use Rattle.cases.specs.Blocks.{block_at};
 
 // Where the bytes behind a head begin and end, or that they are cut off.
-#[derive(Drop)]
+#[derive(Clone, Copy)]
 pub enum Block {
     Whole(usize, usize),
     CutOff,

@@ -1,14 +1,16 @@
 // The two counts of an escapement, which are never taken for one another.
+#![tactic(auto)]
+
 ghost use Rattle.std.specs.Prelude.{◌≡◌};
 ghost use Rattle.format.specs.Measures.{to_scaled, whole_pixels};
 ghost use Rattle.escapement.specs.Count.{whole_of, scaled_of, capped};
 
 // In whole pixels.
-#[derive(Drop)]
+#[derive(Clone, Copy)]
 pub struct Pixels(pub u32);
 
 // In pixels times 65,536.
-#[derive(Drop)]
+#[derive(Clone, Copy)]
 pub struct Scaled(pub i64);
 
 impl Pixels {

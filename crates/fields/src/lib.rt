@@ -1,4 +1,6 @@
 // Many-byte fields of a slice, of 1 to 4 bytes: unsigned, and signed, which 01 has of 8, 16 and 32 bits, rebuilt from their bytes.
+#![tactic(auto)]
+
 ghost use Rattle.std.specs.Prelude.{◌+◌, ◌≤◌, ◌<◌, ◌^◌, ◌≡◌, length, drop};
 ghost use Rattle.format.specs.Numbers.{signed};
 ghost use Rattle.format.specs.Decoding.{number, value_of};

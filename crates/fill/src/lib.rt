@@ -1,5 +1,6 @@
 // Filling a part of a lent buffer, and sending its last row once more.
 #![tactic(auto)]
+
 ghost use Rattle.std.specs.Prelude.{◌+◌, ◌*◌, ◌≤◌, ◌≡◌, ◌++◌, length, take, drop};
 ghost use Rattle.fill.specs.Rows.{filled, last_row, times};
 

@@ -4,7 +4,7 @@ ghost use Rattle.find.specs.Places.{Accepted, IsFound};
 use packet::{Outline, Piece};
 
 // The place of a packet's flag and its outline; or that no packet has the code.
-#[derive(Drop)]
+#[derive(Clone, Copy)]
 pub enum Found {
     At(usize, Outline),
     Absent,

@@ -1,4 +1,6 @@
 // Checking a font: its number of characters, or the first refusal with its place.
+#![tactic(auto)]
+
 ghost use Rattle.std.specs.Prelude.{◌≤◌, ◌<◌, ◌≡◌, false, length, drop, replicate};
 ghost use Rattle.format.specs.Lists.{all};
 ghost use Rattle.format.specs.Refusals.{answers, told};
@@ -13,14 +15,14 @@ use packet::{Outline, Piece};
 use refusals::Refusal;
 
 // The number of characters, or the first refusal with its place.
-#[derive(Drop)]
+#[derive(Clone, Copy)]
 pub enum Checked {
     Chars(usize),
     Refused(Refusal, usize),
 }
 
 // A piece judged: a packet's code and the place behind it; the place behind a command; the 245; or the fault.
-#[derive(Drop)]
+#[derive(Clone, Copy)]
 enum Turn {
     Packet(usize, usize),
     Command(usize),

@@ -7,7 +7,7 @@ use packet::Outline;
 use refusals::Refusal;
 
 // The measures of a drawn character, or a refusal with its place.
-#[derive(Drop)]
+#[derive(Clone, Copy)]
 pub enum Drawn {
     Measured(Measures),
     Refused(Refusal, usize),

@@ -1,4 +1,6 @@
 // The items of a raster: a run or a repeat, with the place of the nybble after it.
+#![tactic(auto)]
+
 ghost use Rattle.std.specs.Prelude.{◌≤◌, ◌≡◌};
 ghost use Rattle.format.specs.Reading.{item_of};
 ghost use Rattle.packed.specs.Answer.{from};
@@ -8,7 +10,7 @@ use packed::Read;
 use refusals::Refusal;
 
 // A run or a repeat of a number, 65,537 for any above 65,536, and the place of the next nybble; or the fault that stands there.
-#[derive(Drop)]
+#[derive(Clone, Copy)]
 pub enum Item {
     Run(usize, usize),
     Repeat(usize, usize),

@@ -1,4 +1,6 @@
 // A raster judged without drawing: that it fills its pixels to the last one, or its first fault.
+#![tactic(auto)]
+
 ghost use Rattle.std.specs.Prelude.{◌*◌, ◌^◌, ◌≤◌, ◌≡◌, true, length};
 ghost use Rattle.format.specs.Limits.{in_limits};
 ghost use Rattle.format.specs.Rasters.{bytes_of_bits};
@@ -15,14 +17,14 @@ use state::{Moved, State};
 const VALUES: [usize; 8] = [1, 2, 4, 8, 16, 32, 64, 128];
 
 // The raster fills its pixels to the last one, or has a first fault.
-#[derive(Drop)]
+#[derive(Clone, Copy)]
 pub enum Judged {
     Whole,
     Fault(Refusal),
 }
 
 // One item taken: the state after it and the place of the next nybble, or its fault.
-#[derive(Drop)]
+#[derive(Clone, Copy)]
 enum Turn {
     On(State, usize),
     Fault(Refusal),

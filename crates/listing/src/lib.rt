@@ -12,7 +12,7 @@ use packet::{Outline, Piece};
 use refusals::Refusal;
 
 // The form of a packet.
-#[derive(Drop)]
+#[derive(Clone, Copy)]
 pub enum Form {
     Short,
     Extended,
@@ -20,7 +20,7 @@ pub enum Form {
 }
 
 // The file's length, the preamble's numbers, and the number of packets.
-#[derive(Drop)]
+#[derive(Clone, Copy)]
 pub struct Heading {
     pub bytes: usize,
     pub ds: i64,
@@ -31,14 +31,14 @@ pub struct Heading {
 }
 
 // The heading and the place behind the preamble, or a refusal with its place.
-#[derive(Drop)]
+#[derive(Clone, Copy)]
 pub enum Listed {
     Font(Heading, usize),
     Refused(Refusal, usize),
 }
 
 // A packet: the place of its flag, its form, f and black bit, and its measures.
-#[derive(Drop)]
+#[derive(Clone, Copy)]
 pub struct Entry {
     pub at: usize,
     pub form: Form,
@@ -48,7 +48,7 @@ pub struct Entry {
 }
 
 // The next packet and the place behind it, or that no packet follows.
-#[derive(Drop)]
+#[derive(Clone, Copy)]
 pub enum Next {
     Packet(Entry, usize),
     End,

@@ -1,4 +1,6 @@
 // The measures of the packet at a place.
+#![tactic(auto)]
+
 ghost use Rattle.std.specs.Prelude.{◌+◌, ◌*◌, ◌≤◌, ◌≡◌, length, drop};
 ghost use Rattle.format.specs.Pieces.{long};
 ghost use Rattle.packet.specs.Outlines.{narrow_form};
@@ -10,7 +12,7 @@ use packet::Outline;
 
 // What is said of a character: code, width and height, TFM width, escapements in pixels times 65,536, and the offsets from the upper
 // left pixel to the reference pixel.
-#[derive(Drop)]
+#[derive(Clone, Copy)]
 pub struct Measures {
     pub code: i64,
     pub w: i64,

@@ -1,4 +1,6 @@
 // The nybbles of a slice.
+#![tactic(auto)]
+
 ghost use Rattle.std.specs.Prelude.{◌*◌, ◌<◌, length};
 ghost use Rattle.nybbles.specs.Nybble.{NybbleAt};
 

@@ -15,7 +15,7 @@ use part::Part;
 use refusals::Refusal;
 
 // The packet's length, or a refusal with its place.
-#[derive(Drop)]
+#[derive(Clone, Copy)]
 pub enum Packed {
     Length(usize),
     Refused(Refusal, usize),

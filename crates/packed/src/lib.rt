@@ -1,4 +1,6 @@
 // Packed numbers: one is read from the nybbles of a slice, however many zeros and digits it has.
+#![tactic(auto)]
+
 ghost use Prim.Native.Nat.{◌*◌, ◌≤◌, ◌<◌};
 ghost use Rattle.std.specs.Prelude.{◌≡◌, length};
 ghost use Rattle.format.specs.Packed.{limit};
@@ -7,7 +9,7 @@ ghost use Rattle.packed.specs.Answer.{from, to_read, read_at, Skipped, IsShort};
 
 // What is read: a number, 65,537 for any above 65,536, and the place of the next nybble; that the nybbles end inside it; that a
 // 14 or 15 stands where it must begin.
-#[derive(Drop)]
+#[derive(Clone, Copy)]
 pub enum Read {
     Number(usize, usize),
     Ends,
@@ -15,7 +17,7 @@ pub enum Read {
 }
 
 // A number of one or two nybbles and the place of the next; n is 0 where none begins. Most numbers are such.
-#[derive(Drop)]
+#[derive(Clone, Copy)]
 pub struct Short {
     pub n: usize,
     pub next: usize,

@@ -1,4 +1,6 @@
 // The fixed part of a packet, as far as a checker needs it: its fields, and the checks 4, 6, 7 and 8.
+#![tactic(auto)]
+
 ghost use Rattle.std.specs.Prelude.{◌+◌, ◌*◌, ◌≤◌, ◌<◌, ◌≡◌, length, drop};
 ghost use Rattle.format.specs.Limits.{in_limits};
 ghost use Rattle.format.specs.Pieces.{long};
@@ -9,7 +11,7 @@ use refusals::Refusal;
 
 // What a packet is without its measures: f and the black bit, the code, the width and height, where its raster begins, and where
 // the packet ends.
-#[derive(Drop)]
+#[derive(Clone, Copy)]
 pub struct Outline {
     pub f: usize,
     pub black: bool,
@@ -21,7 +23,7 @@ pub struct Outline {
 }
 
 // What stands at a place: a packet; a command, with the place behind it; the 245; or a fault.
-#[derive(Drop)]
+#[derive(Clone, Copy)]
 pub enum Piece {
     Packet(Outline),
     Command(usize),
@@ -30,7 +32,7 @@ pub enum Piece {
 }
 
 // Fields as the numbers that their bytes are, not yet judged.
-#[derive(Drop)]
+#[derive(Clone, Copy)]
 struct Fields {
     length: u64,
     code: u64,

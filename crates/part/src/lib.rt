@@ -5,7 +5,7 @@ ghost use Rattle.part.specs.Parts.{Room, Kept, First};
 use walk::{Count, Cursor};
 
 // The number of runs kept, and the cursor behind them.
-#[derive(Drop)]
+#[derive(Clone, Copy)]
 pub struct Part {
     pub n: usize,
     pub cursor: Cursor,

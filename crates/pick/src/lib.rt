@@ -15,7 +15,7 @@ const EXTENDED_TOP: usize = 196595;
 const LONG_TOP: usize = 2147483620;
 
 // The form picked: its escapement in whole pixels, hoff and voff, signed, in 8, 16 or 32 bits; or none.
-#[derive(Drop)]
+#[derive(Clone, Copy)]
 pub enum Picked {
     Short(Pixels, i8, i8),
     Extended(Pixels, i16, i16),

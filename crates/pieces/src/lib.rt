@@ -1,4 +1,6 @@
 // The piece at a place of a font.
+#![tactic(auto)]
+
 ghost use Rattle.std.specs.Prelude.{◌≤◌, ◌≡◌, ◌∷◌, length, drop};
 ghost use Rattle.format.specs.Pieces.{length_kind};
 ghost use Rattle.format.specs.Decoding.{number, value_of};

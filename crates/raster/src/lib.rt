@@ -1,4 +1,6 @@
 // A raster of any kind, known to be whole, drawn into a lent buffer, a byte for each pixel.
+#![tactic(auto)]
+
 ghost use Rattle.std.specs.Prelude.{◌*◌, ◌≤◌, ◌≡◌, true, ◌++◌, length, drop};
 ghost use Rattle.format.specs.Limits.{in_limits};
 ghost use Rattle.format.specs.Drawing.{raster_pixels};

@@ -1,7 +1,8 @@
 // The refusals of 01's table: each is its number, and has a name.
+#![tactic(auto)]
 
 // The number of a row.
-#[derive(Drop)]
+#[derive(Clone, Copy)]
 pub struct Refusal(pub usize);
 
 impl Refusal {

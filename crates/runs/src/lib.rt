@@ -1,4 +1,6 @@
 // A raster of runs and repeats, known to be whole, drawn into a lent buffer, a byte for each pixel.
+#![tactic(auto)]
+
 ghost use Rattle.std.specs.Prelude.{◌+◌, ◌*◌, ◌≤◌, ◌<◌, ◌≡◌, ◌++◌, length, drop};
 ghost use Rattle.format.specs.Rasters.{colour};
 ghost use Rattle.format.specs.Reading.{ReadWhole};

@@ -1,4 +1,6 @@
 // The magnitude of a signed number, and the number in fewer bits.
+#![tactic(auto)]
+
 ghost use Rattle.std.specs.Prelude.{◌<◌, ◌≡◌};
 ghost use Rattle.std.specs.Int.Signed.{mag};
 

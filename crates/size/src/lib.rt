@@ -11,7 +11,7 @@ ghost use Rattle.size.specs.Sizes.{over, Few, short_nybbles, digit_nybbles, Tota
 use part::Part;
 
 // The f that is chosen, the number of its raster bytes, and the first part of the count list.
-#[derive(Drop)]
+#[derive(Clone, Copy)]
 pub struct Chosen {
     pub f: usize,
     pub bytes: usize,

@@ -1,4 +1,6 @@
 // The state within a raster, by value: where the next pixel stands, and what its row has had.
+#![tactic(auto)]
+
 ghost use Rattle.std.specs.Prelude.{◌+◌, ◌*◌, ◌/◌, ◌≤◌, ◌<◌, ◌≡◌, not};
 ghost use Rattle.format.specs.Reading.{start, row_ends, advanced, with_repeat, after_run, after_repeat};
 ghost use Rattle.state.specs.Moves.{plain, coloured, moved_to, Within};
@@ -6,7 +8,7 @@ ghost use Rattle.state.specs.Moves.{plain, coloured, moved_to, Within};
 use refusals::Refusal;
 
 // The column and the row that come next, the repeat that the row has had (0 for none), and whether the next run is black.
-#[derive(Drop)]
+#[derive(Clone, Copy)]
 pub struct State {
     pub column: usize,
     pub row: usize,
@@ -15,7 +17,7 @@ pub struct State {
 }
 
 // The state after a run or a repeat, or the fault that it is.
-#[derive(Drop)]
+#[derive(Clone, Copy)]
 pub enum Moved {
     To(State),
     Fault(Refusal),

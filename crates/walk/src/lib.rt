@@ -6,7 +6,7 @@ ghost use Rattle.walk.specs.Walk.{begin, Inside, Counted, RowAt, Removal, Entere
 
 // A place in the joined string: the next pixel and the end of its row, where the next row kept begins, the repeats of this row that
 // have not found their place, and the pixel before.
-#[derive(Drop)]
+#[derive(Clone, Copy)]
 pub struct Cursor {
     pub at: usize,
     pub end: usize,
@@ -16,14 +16,14 @@ pub struct Cursor {
 }
 
 // The next run: its length, the repeat that stands before it (0 for none), and the cursor after it.
-#[derive(Drop)]
+#[derive(Clone, Copy)]
 pub enum Count {
     Run(usize, usize, Cursor),
     Done,
 }
 
 // A run as far as it is taken: its colour and length, the repeat that stands before it, and the cursor after it.
-#[derive(Drop)]
+#[derive(Clone, Copy)]
 struct Taken {
     colour: u8,
     length: usize,
@@ -32,7 +32,7 @@ struct Taken {
 }
 
 // Where the next row kept begins, and the number of rows removed before it.
-#[derive(Drop)]
+#[derive(Clone, Copy)]
 struct Removed {
     next: usize,
     n: usize,

@@ -1,1 +1,2 @@
 // 01, Worked by hand: one list of examples, one statement that the definitions give each. No code.
+#![tactic(auto)]

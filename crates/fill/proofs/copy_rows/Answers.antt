@@ -29,7 +29,7 @@ loop-k-preserved c =
     let a = c.args in
     let l = c.loop-k in
     let m = mul-le-mul_right {m = l.k + 1} {n = a.t} a.w (omega arith) in
-    let e = rows_more a.buf.now a.at a.w (omega arith) _ refl l.k l.to l.buf c.copy_row.new.0 (omega arith) l.invariant.1 l.invariant.0 c.copy_row.ensures in
+    let e = rows_more a.buf.now a.at a.w (omega arith) _ refl l.k l.to l.buf c.copy_row.new.buf (omega arith) l.invariant.1 l.invariant.0 c.copy_row.ensures in
     (e, omega arith, omega arith, ap length e ∙ length_after a.buf.now a.at a.w (omega arith) _ refl (l.k + 1) (omega arith))
 
 pub shape_of-buf : goal.shape_of-buf

@@ -1,0 +1,12 @@
+use mathlib.Core.Path.{sym, ap}
+use Rattle.items.specs.Items.{as_repeat}
+use Rattle.items.proofs.as_repeat.Goals as goal
+
+pub returns-in-Number : goal.returns-in-Number
+returns-in-Number c = cc
+
+pub returns-in-Ends : goal.returns-in-Ends
+returns-in-Ends c = ap as_repeat (sym c.in-Ends.is)
+
+pub returns-in-Mark : goal.returns-in-Mark
+returns-in-Mark c = ap as_repeat (sym c.in-Mark.is)

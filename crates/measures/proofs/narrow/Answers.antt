@@ -1,0 +1,16 @@
+use native.Mathlib.Omega.{arith}
+use Rattle.measures.proofs.SaidLaws.{dm_fits, narrow_said}
+use Rattle.measures.proofs.narrow.Goals as goal
+
+pub overflow_cast-dm : goal.overflow_cast-dm
+overflow_cast-dm c = dm_fits _ _ _ _ (omega arith) c.number_at-dm.ensures
+
+pub returns : goal.returns
+returns c =
+    narrow_said c.args.s.now c.args.at c.args.m _ _ _ _ _ _ _ (omega arith) (omega arith) c.requires.3
+    c.number_at-tfm.ensures
+    c.number_at-dm.ensures
+    c.scaled.ensures
+    c.scaled-2.ensures
+    (record { fits = record { sfits = c.signed_at-hoff.type_inv }; is = c.signed_at-hoff.ensures })
+    (record { fits = record { sfits = c.signed_at-voff.type_inv }; is = c.signed_at-voff.ensures })

@@ -1,0 +1,57 @@
+use Prim.Native.Nat.{◌-◌}
+use native.Mathlib.Omega.{arith}
+use borrow.Author.Rules.{rules}
+use Rattle.format.proofs.FieldLaws.{bytes_of_lem}
+use Rattle.runs.proofs.LeftLaws.{left_start, run_fits, left_run, left_repeat, left_sound, left_end}
+use Rattle.runs.proofs.draw_runs.Goals as goal
+
+pub loop-state-init : goal.loop-state-init
+loop-state-init c =
+    let a = c.args in
+    left_start _ _ _ _ _ _ _ (omega arith) (omega arith) (omega arith) (bytes_of_lem a.s.now (λ i. omega (arith, c.shared_slice_known-1.given i))) (search rules) c.start-state.ensures
+
+pub draw_run-requires : goal.draw_run-requires
+draw_run-requires c =
+    let l = c.loop-state.invariant in
+    let k = run_fits l (omega arith) (omega arith) (omega arith) _ c.item_at-item.ensures _ _ c.in-Run.is in
+    (l.inside.wide, omega (arith, k.0, l.long))
+
+pub past-state-requires : goal.past-state-requires
+past-state-requires c =
+    let l = c.loop-state.invariant in
+    let k = run_fits l (omega arith) (omega arith) (omega arith) _ c.item_at-item.ensures _ _ c.in-Run.is in
+    (omega arith, omega (arith, k.0), k.1)
+
+pub loop-state-smaller-in-Run : goal.loop-state-smaller-in-Run
+loop-state-smaller-in-Run c =
+    let l = c.loop-state.invariant in
+    let t = left_run l (omega arith) (omega arith) (omega arith) _ c.item_at-item.ensures _ _ c.in-Run.is _ _ c.draw_run.ensures (search rules) c.past-state.ensures in
+    omega (arith, t.0, t.1.low)
+
+pub loop-state-preserved-in-Run : goal.loop-state-preserved-in-Run
+loop-state-preserved-in-Run c =
+    let l = c.loop-state.invariant in
+    (left_run l (omega arith) (omega arith) (omega arith) _ c.item_at-item.ensures _ _ c.in-Run.is _ _ c.draw_run.ensures (search rules) c.past-state.ensures).1
+
+pub loop-state-smaller : goal.loop-state-smaller
+loop-state-smaller c =
+    let l = c.loop-state.invariant in
+    let t = left_repeat l (omega arith) (omega arith) (omega arith) _ c.item_at-item.ensures _ _ c.in-Repeat.is _ c.repeated-state.ensures in
+    omega (arith, t.0, t.1.low)
+
+pub loop-state-preserved : goal.loop-state-preserved
+loop-state-preserved c =
+    let l = c.loop-state.invariant in
+    (left_repeat l (omega arith) (omega arith) (omega arith) _ c.item_at-item.ensures _ _ c.in-Repeat.is _ c.repeated-state.ensures).1
+
+pub shape_of-buf-in-Fault : goal.shape_of-buf-in-Fault
+shape_of-buf-in-Fault c = c.loop-state.invariant.long
+
+pub returns-in-Fault : goal.returns-in-Fault
+returns-in-Fault c = absurd (left_sound c.loop-state.invariant (omega arith) (omega arith) (omega arith) _ c.item_at-item.ensures _ c.in-Fault.is)
+
+pub shape_of-buf : goal.shape_of-buf
+shape_of-buf c = c.loop-state.invariant.long
+
+pub returns : goal.returns
+returns c = left_end c.loop-state.invariant (omega arith)
