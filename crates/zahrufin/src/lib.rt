@@ -18,7 +18,7 @@ use pack::Packed;
 
 // zahrufin_measures.
 #[repr(C)]
-#[derive(Drop)]
+#[derive(Clone, Copy)]
 pub struct PlainMeasures {
     pub code: i64,
     pub w: i64,
@@ -32,7 +32,7 @@ pub struct PlainMeasures {
 
 // zahrufin_checked.
 #[repr(C)]
-#[derive(Drop)]
+#[derive(Clone, Copy)]
 pub struct PlainChecked {
     pub refusal: u32,
     pub place: u32,
@@ -41,7 +41,7 @@ pub struct PlainChecked {
 
 // zahrufin_drawn.
 #[repr(C)]
-#[derive(Drop)]
+#[derive(Clone, Copy)]
 pub struct PlainDrawn {
     pub refusal: u32,
     pub place: u32,
@@ -50,7 +50,7 @@ pub struct PlainDrawn {
 
 // zahrufin_packed.
 #[repr(C)]
-#[derive(Drop)]
+#[derive(Clone, Copy)]
 pub struct PlainPacked {
     pub refusal: u32,
     pub place: u32,
