@@ -1,4 +1,6 @@
 // The raster bytes of a bitmap's bits (f = 14), written into a lent buffer.
+#![tactic(auto)]
+
 ghost use Rattle.std.specs.Prelude.{◌+◌, ◌*◌, ◌≤◌, ◌<◌, ◌≡◌, true, ◌++◌, length, take, drop, get_or};
 ghost use Rattle.format.specs.Rasters.{bytes_of_bits};
 ghost use Rattle.format.specs.Choice.{byte_of, bit_bytes};

@@ -1,4 +1,6 @@
 // Drawing a code of a font into a lent buffer: the public call.
+#![tactic(auto)]
+
 ghost use Rattle.std.specs.Prelude.{◌≡◌};
 ghost use Rattle.format.specs.Refusals.{told};
 ghost use Rattle.format.specs.Drawing.{draw_answer, draw_buffer};

@@ -1,4 +1,6 @@
 // Packed numbers written as nybbles into a lent buffer.
+#![tactic(auto)]
+
 ghost use Rattle.std.specs.Prelude.{◌+◌, ◌*◌, ◌≤◌, ◌<◌, ◌≡◌, length};
 ghost use Rattle.format.specs.Packed.{large, encode};
 ghost use Rattle.emit.specs.Nybbles.{put_one, put_all};

@@ -1,4 +1,6 @@
 // The packet of a code in an accepted font.
+#![tactic(auto)]
+
 ghost use Rattle.find.specs.Places.{Accepted, IsFound};
 
 use packet::{Outline, Piece};

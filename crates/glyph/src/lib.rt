@@ -1,4 +1,6 @@
 // The packet at a place, drawn into a lent buffer.
+#![tactic(auto)]
+
 ghost use Rattle.packet.specs.Standing.{Drawable};
 ghost use Rattle.glyph.specs.Packets.{IsDrawn, IsPixels};
 

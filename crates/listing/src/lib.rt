@@ -1,4 +1,6 @@
 // What is listed of a font: its heading, and its packets in file order, one at a time.
+#![tactic(auto)]
+
 ghost use Rattle.std.specs.Prelude.{◌≡◌};
 ghost use Rattle.format.specs.Refusals.{told};
 ghost use Rattle.format.specs.Listing.{heading_answer};

@@ -1,4 +1,6 @@
 // Packing a bitmap with its measures into a lent buffer: the public call.
+#![tactic(auto)]
+
 ghost use Prim.Native.Nat.{◌+◌, ◌*◌, ◌≤◌};
 ghost use Rattle.std.specs.Prelude.{◌≡◌, true, ◌++◌, length, take, drop};
 ghost use Rattle.format.specs.Limits.{within_limits, is_code};

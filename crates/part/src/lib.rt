@@ -1,4 +1,6 @@
 // A part of the count list of a bitmap, kept in two lent arrays: most bitmaps are walked once, and the walk is called from one place.
+#![tactic(auto)]
+
 ghost use Rattle.walk.specs.Walk.{begin, Inside};
 ghost use Rattle.part.specs.Parts.{Room, Kept, First};
 

@@ -1,4 +1,6 @@
 // The form of a packet, picked for its measures and the number of its raster bytes.
+#![tactic(auto)]
+
 ghost use Rattle.std.specs.Prelude.{◌≡◌};
 ghost use Rattle.escapement.specs.Count.{whole_of};
 ghost use Rattle.measures.specs.Said.{said};

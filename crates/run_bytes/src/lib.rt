@@ -1,4 +1,6 @@
 // The raster bytes of a count list, written into a lent buffer.
+#![tactic(auto)]
+
 ghost use Rattle.std.specs.Prelude.{◌+◌, ◌*◌, ◌≤◌, ◌<◌, ◌≡◌, ◌∷◌, [], ◌++◌, length, take, drop};
 ghost use Rattle.format.specs.Rasters.{run, writings, rows};
 ghost use Rattle.format.specs.Counts.{before, counts};

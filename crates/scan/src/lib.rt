@@ -1,4 +1,6 @@
 // Bytes of a slice compared, eight at a time: how far they are all one byte, and how far two stretches are equal.
+#![tactic(auto)]
+
 ghost use Rattle.std.specs.Prelude.{◌≡◌, ◌+◌, ◌<◌, ◌≤◌, length};
 ghost use Rattle.scan.specs.Scan.{Eight, Alike, FirstOther, FirstDifference};
 

@@ -1,4 +1,6 @@
 // The size pass: the nybbles of a bitmap's count list for each f from 0 to 13, and the f that is chosen.
+#![tactic(auto)]
+
 ghost use Rattle.std.specs.Prelude.{◌+◌, ◌*◌, ◌≤◌, ◌<◌, ◌≡◌, ◌∷◌, [], length};
 ghost use Rattle.format.specs.Rasters.{run};
 ghost use Rattle.format.specs.Counts.{before};

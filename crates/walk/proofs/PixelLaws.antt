@@ -116,9 +116,9 @@ same_answer {b} {x} {y} {w} {k} o l f = elim (dec_le w k) [
   | no h ↦ ne_eqb k w (λ e. omega arith) ∙ sym (rows_differ f (lt_of_not-le h))
 ]
 
--- What a negated answer says.
-pub off : {a t : Bool} → a ≡ t → not a ≡ true → t ≡ false
-off {a} e n = sym e ∙ not-true a n
+-- What an answer says of what it answers.
+pub off : {a t : Bool} → a ≡ t → a ≡ false → t ≡ false
+off e n = sym e ∙ n
 
-pub on : {a t : Bool} → a ≡ t → not a ≡ false → t ≡ true
-on {a} e n = sym e ∙ not-false a n
+pub on : {a t : Bool} → a ≡ t → a ≡ true → t ≡ true
+on e n = sym e ∙ n

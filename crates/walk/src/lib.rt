@@ -1,4 +1,6 @@
 // The count list of a bitmap, one run at a time, with no list stored: a cursor by value walks the rows kept.
+#![tactic(auto)]
+
 ghost use Rattle.std.specs.Prelude.{◌+◌, ◌≤◌, ◌<◌, ◌≡◌, length, take, drop};
 ghost use Rattle.format.specs.Lists.{same};
 ghost use Rattle.format.specs.Counts.{mixed};
