@@ -1,1 +1,2 @@
 // The round trip over the public calls: a theorem alone, see proofs/.
+#![tactic(auto)]

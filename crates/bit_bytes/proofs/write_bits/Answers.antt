@@ -25,4 +25,4 @@ pub shape_of-buf : goal.shape_of-buf
 shape_of-buf c = c.loop-i.invariant.same
 
 pub returns : goal.returns
-returns c = (bits_end c.loop-i.invariant (omega arith), bits_is c.loop-i.invariant (omega arith))
+returns c = record { value = bits_end c.loop-i.invariant (omega arith); buf_after = bits_is c.loop-i.invariant (omega arith) }

@@ -20,10 +20,8 @@ loop-j-preserved c = left_more _ c.loop-j.invariant (omega arith)
 pub returns : goal.returns
 returns c = left_end c.loop-j.invariant (omega arith)
 
--- no goal Need-nonzero-div-buf
--- div-buf : tie.Need-nonzero-div-buf invariant-loop decreases-loop
--- div-buf c = (left_step _ c.before.loop.invariant (omega arith)).some
+pub nonzero_div-buf : goal.nonzero_div-buf
+nonzero_div-buf c = (left_step _ c.loop-j.invariant (omega arith)).some
 
--- no goal Need-nonzero-rem-m
--- rem-m : tie.Need-nonzero-rem-m invariant-loop decreases-loop
--- rem-m c = (left_step _ c.before.loop.invariant (omega arith)).some
+pub nonzero_rem-m : goal.nonzero_rem-m
+nonzero_rem-m c = (left_step _ c.loop-j.invariant (omega arith)).some

@@ -12,7 +12,8 @@ write_short-requires c =
 pub returns-in-Short : goal.returns-in-Short
 returns-in-Short c =
     let a = c.args in
-    wrote_picked a.f a.black (said a.m) a.n a.buf.now _ a.k _ c.in-Short.is c.write_short.ensures
+    let e = wrote_picked a.f a.black (said a.m) a.n a.buf.now _ a.k _ c.in-Short.is c.write_short.ensures in
+    record { value = e.0; buf_after = e.1 }
 
 pub write_extended-requires : goal.write_extended-requires
 write_extended-requires c =
@@ -22,7 +23,8 @@ write_extended-requires c =
 pub returns-in-Extended : goal.returns-in-Extended
 returns-in-Extended c =
     let a = c.args in
-    wrote_picked a.f a.black (said a.m) a.n a.buf.now _ a.k _ c.in-Extended.is c.write_extended.ensures
+    let e = wrote_picked a.f a.black (said a.m) a.n a.buf.now _ a.k _ c.in-Extended.is c.write_extended.ensures in
+    record { value = e.0; buf_after = e.1 }
 
 pub write_long-requires : goal.write_long-requires
 write_long-requires c =
@@ -32,9 +34,11 @@ write_long-requires c =
 pub returns-in-Long : goal.returns-in-Long
 returns-in-Long c =
     let a = c.args in
-    wrote_picked a.f a.black (said a.m) a.n a.buf.now _ a.k _ c.in-Long.is c.write_long.ensures
+    let e = wrote_picked a.f a.black (said a.m) a.n a.buf.now _ a.k _ c.in-Long.is c.write_long.ensures in
+    record { value = e.0; buf_after = e.1 }
 
 pub returns-in-Nothing : goal.returns-in-Nothing
 returns-in-Nothing c =
     let a = c.args in
-    wrote_picked a.f a.black (said a.m) a.n a.buf.now _ a.k Nothing c.in-Nothing.is (refl, refl)
+    let e = wrote_picked a.f a.black (said a.m) a.n a.buf.now _ a.k Nothing c.in-Nothing.is (refl, refl) in
+    record { value = e.0; buf_after = e.1 }

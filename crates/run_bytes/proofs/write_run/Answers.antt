@@ -1,0 +1,12 @@
+use native.Mathlib.Omega.{arith}
+use Rattle.run_bytes.proofs.WritingLaws.{room_run, put_run}
+use Rattle.run_bytes.proofs.write_run.Goals as goal
+
+pub write_repeat-j-requires : goal.write_repeat-j-requires
+write_repeat-j-requires c = (c.requires.0, c.requires.3, omega (arith, room_run c.args.buf.now c.args.i c.args.f c.args.k c.args.m c.requires.4))
+
+pub write_number-requires : goal.write_number-requires
+write_number-requires c = (c.requires.0, c.requires.1, c.requires.2, omega (arith, c.write_repeat-j.ensures.place, room_run c.args.buf.now c.args.i c.args.f c.args.k c.args.m c.requires.4))
+
+pub returns : goal.returns
+returns c = put_run _ _ _ _ _ _ _ _ _ c.write_repeat-j.ensures c.write_number.ensures
