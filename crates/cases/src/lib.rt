@@ -1,4 +1,6 @@
 // The cases that a program reads one after the other: bytes behind a head whose last four bytes are their length.
+#![tactic(auto)]
+
 ghost use Rattle.std.specs.Prelude.{◌≤◌, ◌≡◌, length};
 ghost use Rattle.cases.specs.Blocks.{block_at};
 

@@ -5,7 +5,7 @@ use Rattle.draw.proofs.draw.Goals as goal
 
 pub draw_accepted-requires : goal.draw_accepted-requires
 draw_accepted-requires c =
-    accepted c.args.font.now (bytes_of_lem c.args.font.now (λ i. omega (arith, c.shared_slice_known-1.given i))) _ _ c.in-Chars.is c.check-checked.ensures
+    accepted c.args.font.now (bytes_of_lem c.args.font.now (λ i. omega (arith, c.type_inv.font i))) _ _ c.in-Chars.is c.check-checked.ensures
 
 pub returns-in-Refused : goal.returns-in-Refused
 returns-in-Refused c =

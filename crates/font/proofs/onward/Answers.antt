@@ -7,7 +7,7 @@ use Rattle.font.proofs.onward.Goals as goal
 pub loop-code-init : goal.loop-code-init
 loop-code-init c =
     let a = c.args in
-    going_start a.font.now a.start _ (bytes_of_lem a.font.now (λ i. omega (arith, c.shared_slice_known-1.given i))) (omega arith) c.none_seen-seen.ensures
+    going_start a.font.now a.start _ (bytes_of_lem a.font.now (λ i. omega (arith, c.type_inv.font i))) (omega arith) c.none_seen-seen.ensures
 
 pub bounds-seen-code : goal.bounds-seen-code
 bounds-seen-code c = (goes _ _ _ _ _ c.loop-code.invariant _ _ c.turn_at-answer.ensures c.in-Packet.is).1

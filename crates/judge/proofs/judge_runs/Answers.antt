@@ -10,7 +10,7 @@ pub loop-state-init : goal.loop-state-init
 loop-state-init c =
     let a = c.args in
     subst (λ x. Left a.s.now a.f a.w a.h 0 (plain x)) (sym c.start-state.ensures)
-    (left_start _ _ _ _ (bytes_of_lem a.s.now (λ i. omega (arith, c.shared_slice_known-1.given i))) (omega arith) (omega arith))
+    (left_start _ _ _ _ (bytes_of_lem a.s.now (λ i. omega (arith, c.type_inv.s i))) (omega arith) (omega arith))
 
 pub turn_at-answer-requires : goal.turn_at-answer-requires
 turn_at-answer-requires c = (omega arith, left_within c.loop-state.invariant (omega arith) (omega arith))

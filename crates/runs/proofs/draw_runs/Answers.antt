@@ -8,7 +8,7 @@ use Rattle.runs.proofs.draw_runs.Goals as goal
 pub loop-state-init : goal.loop-state-init
 loop-state-init c =
     let a = c.args in
-    left_start _ _ _ _ _ _ _ (omega arith) (omega arith) (omega arith) (bytes_of_lem a.s.now (λ i. omega (arith, c.shared_slice_known-1.given i))) (search rules) c.start-state.ensures
+    left_start _ _ _ _ _ _ _ (omega arith) (omega arith) (omega arith) (bytes_of_lem a.s.now (λ i. omega (arith, c.type_inv.s i))) (search rules) c.start-state.ensures
 
 pub draw_run-requires : goal.draw_run-requires
 draw_run-requires c =
