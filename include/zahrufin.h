@@ -1,4 +1,4 @@
-/* zahrufin: check, draw and pack PK fonts (document 01). Link target/staticlib/libzahrufin.a, which `rt staticlib zahrufin` makes.
+/* zahrufin: check, draw and pack PK fonts (document 01). Link target/staticlib/libzahrufin.a, which tools/staticlib makes.
  * It is built for x86-64: System V calling convention with its red zone, SSE2, position independent; it needs less than 6 KiB of stack
  * (measured, not proved).
  *

@@ -26,7 +26,7 @@ fn main() {
     println!("cargo::rerun-if-changed={}", archive.display());
     let Ok(found) = archive.canonicalize() else {
         let path = archive.display();
-        println!("cargo::error=no static library at {path}: build it with rt staticlib zahrufin, or set ZAHRUFIN_LIB");
+        println!("cargo::error=no static library at {path}: build it with tools/staticlib, or set ZAHRUFIN_LIB");
         return;
     };
     let (Some(name), Some(folder)) = (link_name(&archive), found.parent()) else {

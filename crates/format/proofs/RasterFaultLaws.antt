@@ -10,7 +10,7 @@ use lib.ListN.{length, drop, replicate, length-append}
 use borrow.Author.Tests.{ltb-true, ltb-false, leb-true, leb-false, eqb-true, eqb-false, le-leb, lt-leb}
 use Rattle.format.specs.Limits.{in_limits}
 use Rattle.format.specs.Lists.{all}
-use Rattle.format.specs.Refusals.{Refusal, raster_ends, too_many, left_over, Result, ok, fault, ◌>>=◌}
+use Rattle.format.specs.Refusals.{Refusal, raster_ends, too_many, left_over, Result, ok, ◌>>=◌}
 use Rattle.format.specs.Numbers.{Bytes}
 use Rattle.format.specs.Packed.{nybbles, limit}
 use Rattle.format.specs.Decoding.{Got, value, ends, mark, digits, zeros, shift, second, decode}

@@ -1,9 +1,12 @@
 // What the programs print: signed numbers, refusals, and the mark that stands for many bytes; and the buffer that they lend.
+#![tactic(auto)]
+
 ghost use Rattle.std.specs.Prelude.{◌≡◌, length};
 ghost use Rattle.lines.specs.Marks.{marked, area_of};
 
-use libc::STDOUT_FILENO;
 use refusals::Refusal;
+use std::io;
+use std::io::Write;
 
 // What stands in a lent buffer before a call.
 const OLD: u8 = 170;
@@ -12,21 +15,18 @@ const OLD: u8 = 170;
 pub const ROOM: usize = 65600;
 
 // A number in decimal, behind its sign if it is negative.
-pub fn print_signed(n: i64) {
+pub fn print_signed<W: Write>(out: &mut W, n: i64) -> io::Result<()> {
     if n < 0 {
-        io::write_all(STDOUT_FILENO, b"-");
-        io::print_decimal(STDOUT_FILENO, sign::magnitude(n) + 1);
+        out.write_all(b"-")?;
+        write!(out, "{}", sign::magnitude(n) + 1)
     } else {
-        io::print_decimal(STDOUT_FILENO, sign::magnitude(n));
+        write!(out, "{}", sign::magnitude(n))
     }
 }
 
 // A refusal's number and place.
-pub fn print_refusal(x: Refusal, place: usize) {
-    io::write_all(STDOUT_FILENO, b"refuse ");
-    io::print_decimal(STDOUT_FILENO, x.0 as u64);
-    io::write_all(STDOUT_FILENO, b" ");
-    io::print_decimal(STDOUT_FILENO, place as u64);
+pub fn print_refusal<W: Write>(out: &mut W, x: Refusal, place: usize) -> io::Result<()> {
+    write!(out, "refuse {} {}", x.0, place)
 }
 
 // The mark over bytes: begin with 1, and for each byte b make it (mark * 257 + b) mod 65,521.
@@ -50,28 +50,28 @@ pub fn old_bytes() -> [u8; ROOM]
 }
 
 // Says so if a byte from `at` on is not the old one.
-pub fn print_touched(bytes: &[u8], at: usize) {
+pub fn print_touched<W: Write>(out: &mut W, bytes: &[u8], at: usize) -> io::Result<()> {
     let mut i = at;
     while i < bytes.len() {
         if bytes[i] != OLD {
-            io::write_all(STDOUT_FILENO, b" touched");
-            return;
+            return out.write_all(b" touched");
         }
         i += 1;
     }
+    Ok(())
 }
 
 // The mark of the first n bytes, and whether more was written.
-pub fn print_marked(bytes: &[u8], n: usize) {
+pub fn print_marked<W: Write>(out: &mut W, bytes: &[u8], n: usize) -> io::Result<()> {
     if bytes.len() < n {
-        return;
+        return Ok(());
     }
-    io::write_all(STDOUT_FILENO, b" ");
-    io::print_decimal(STDOUT_FILENO, mark_of(&bytes[..n]) as u64);
-    print_touched(bytes, n);
+    write!(out, " {}", mark_of(&bytes[..n]))?;
+    print_touched(out, bytes, n)
 }
 
 // The pixels of w by h, and 0 where w or h is above 65,536.
+#[tactic(auto, using(crate::proofs::MarkLaws::area_some, crate::proofs::MarkLaws::area_wide, crate::proofs::MarkLaws::area_high))]
 pub fn area(w: u64, h: u64) -> usize
     ensures { result ≡ area_of w h }
 {
@@ -85,6 +85,6 @@ pub fn area(w: u64, h: u64) -> usize
 }
 
 // The line of a case that is cut short, or that asks for too much room.
-pub fn print_bad() {
-    io::write_all(STDOUT_FILENO, b"bad case\n");
+pub fn print_bad<W: Write>(out: &mut W) -> io::Result<()> {
+    out.write_all(b"bad case\n")
 }

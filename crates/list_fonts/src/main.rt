@@ -1,28 +1,33 @@
 // The listing run on real fonts: standard input holds fonts, each behind its length in four bytes; the listing of each is printed, and then
 // that of a file that is one byte too long, whose first 65,536 bytes are a font. A font that is cut off gets the line `bad case`.
+#![tactic(auto)]
+
 use cases::Block;
-use libc::STDIN_FILENO;
+use std::fs::File;
+use std::io;
+use std::io::{BufWriter, Read, Write};
 
 // Each font of the cases.
-fn list_each(cases: &[u8]) {
+#[tactic(auto, using(cases::proofs::BlockLaws::whole_stands))]
+fn list_each<W: Write>(out: &mut W, cases: &[u8]) -> io::Result<()> {
     let mut at: usize = 0;
     while at < cases.len() {
         let block = cases::block_at(cases, at, 4);
         let Block::Whole(begin, end) = block else {
-            lines::print_bad();
-            return;
+            return lines::print_bad(out);
         };
-        list_lines::print_listing(&cases[begin..end]);
+        list_lines::print_listing(out, &cases[begin..end])?;
         at = end;
     }
+    Ok(())
 }
 
 // All cases of standard input, and the file.
-fn main() {
-    let mut cases = [0u8; 262144];
-    let n = io::read_full(STDIN_FILENO, &mut cases);
-    list_each(&cases[..n]);
-    let fd = os::open_read(b"long.pk");
-    list_lines::list_from(fd);
-    libc::close(fd);
+fn main(rt: HostRuntime) -> io::Result<()> {
+    let mut cases = Vec::new(rt.alloc());
+    rt.reader().take(262144).read_to_end(&mut cases)?;
+    let mut out = BufWriter::new(rt.alloc(), io::writer(&rt))?;
+    list_each(&mut out, cases.as_slice())?;
+    list_lines::list_from(rt.alloc(), File::open(&rt, "long.pk")?, &mut out)?;
+    out.flush()
 }

@@ -1,20 +1,37 @@
 // Looks at one character: look FONT CODE prints it as rows of stars and points, look FONT CODE pbm as a plain PBM.
-use libc::{STDERR_FILENO, STDOUT_FILENO};
+#![tactic(auto)]
+
+use std::env::{Env, FillError};
+use std::io;
+use std::io::{BufWriter, Write};
+
+// How many arguments there are, the program's own name among them.
+fn arg_count(rt: &impl Env) -> usize {
+    for i in 0..usize::MAX {
+        if let Err(FillError::NotPresent) = rt.arg(i, &mut []) {
+            return i;
+        }
+    }
+    usize::MAX
+}
 
 // The arguments, as far as they are there.
-fn main() {
-    let mut path = io::buffer();
-    let mut code = io::buffer();
-    let mut word = io::buffer();
-    let n = os::arg(1, &mut path);
-    let k = os::arg(2, &mut code);
-    let m = os::arg(3, &mut word);
+fn main(rt: HostRuntime) -> io::Result<()> {
+    let mut path = [0u8; 4096];
+    let mut code = [0u8; 4096];
+    let mut word = [0u8; 4096];
+    let n = rt.arg(1, &mut path).unwrap_or(0);
+    let k = rt.arg(2, &mut code).unwrap_or(0);
+    let m = rt.arg(3, &mut word).unwrap_or(0);
+    let mut out = BufWriter::new(rt.alloc(), io::writer(&rt))?;
     looking::run(
-        os::arg_count(),
+        &rt,
+        arg_count(&rt),
         &path[..n],
         &code[..k],
         &word[..m],
-        STDOUT_FILENO,
-        STDERR_FILENO,
-    );
+        &mut out,
+        &mut rt.stderr(),
+    )?;
+    out.flush()
 }

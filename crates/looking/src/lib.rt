@@ -1,9 +1,15 @@
 // A character looked at: the font of a path is read, and the character drawn as rows of text or as a plain PBM.
+#![tactic(auto)]
+
 ghost use Rattle.std.specs.Prelude.{◌≤◌, ◌<◌};
 
 use glyph::Drawn;
 use measures::Measures;
 use refusals::Refusal;
+use std::fs::File;
+use std::io::{Read, Write};
+use std::rt::Files;
+use std::{io, str};
 
 // The digits' characters, '0' to '9'.
 const ZERO: usize = 48;
@@ -18,8 +24,8 @@ enum Asked {
 }
 
 // How to use the program, in a line.
-fn say_usage(err: i32) {
-    io::write_all(err, b"usage: look FONT CODE [pbm]\n");
+fn say_usage<E: Write>(err: &mut E) -> io::Result<()> {
+    err.write_all(b"usage: look FONT CODE [pbm]\n")
 }
 
 // The code from 0 to 255 that a text of decimal digits names.
@@ -75,114 +81,127 @@ fn line_length(w: usize, left: usize) -> usize
 }
 
 // A text in lines of w bytes, the last one as long as what is left.
-fn print_rows(out: i32, text: &[u8], w: usize)
+fn print_rows<O: Write>(out: &mut O, text: &[u8], w: usize) -> io::Result<()>
     requires { 0 < w }
 {
     let mut at: usize = 0;
     while at < text.len() {
         let end = at + line_length(w, text.len() - at);
-        io::write_all(out, &text[at..end]);
-        io::write_all(out, b"\n");
+        out.write_all(&text[at..end])?;
+        out.write_all(b"\n")?;
         at = end;
     }
+    Ok(())
 }
 
 // Rows of stars and points.
-fn print_text(out: i32, pixels: &mut [u8], w: u64)
+fn print_text<O: Write>(out: &mut O, pixels: &mut [u8], w: u64) -> io::Result<()>
     requires { 0 < w }
 {
     spell(pixels, b'*', b'.');
-    print_rows(out, pixels, w as usize);
+    print_rows(out, pixels, w as usize)
 }
 
 // A plain PBM: its lines have at most 70 digits.
-fn print_pbm(out: i32, pixels: &mut [u8], w: u64, h: u64) {
-    io::write_all(out, b"P1\n");
-    io::print_decimal(out, w);
-    io::write_all(out, b" ");
-    io::print_decimal(out, h);
-    io::write_all(out, b"\n");
+fn print_pbm<O: Write>(out: &mut O, pixels: &mut [u8], w: u64, h: u64) -> io::Result<()> {
+    out.write_all(b"P1\n")?;
+    writeln!(out, "{w} {h}")?;
     spell(pixels, b'1', b'0');
-    print_rows(out, pixels, 70);
+    print_rows(out, pixels, 70)
 }
 
 // The picture of drawn pixels; that there are none is told in a line. (A buffer of 65,536 bytes holds all that are drawn.)
-fn print_picture(m: Measures, code: usize, pixels: &mut [u8], pbm: bool, out: i32, err: i32) {
+fn print_picture<O: Write, E: Write>(
+    m: Measures,
+    code: usize,
+    pixels: &mut [u8],
+    pbm: bool,
+    out: &mut O,
+    err: &mut E,
+) -> io::Result<()> {
     let w = sign::magnitude(m.w);
     let h = sign::magnitude(m.h);
     let n = lines::area(w, h);
     if w == 0 {
-        io::write_all(err, b"look: no pixels in character ");
-        io::print_decimal(err, code as u64);
-        io::write_all(err, b"\n");
-        return;
+        return writeln!(err, "look: no pixels in character {code}");
     }
     if pixels.len() < n {
-        return;
+        return Ok(());
     }
     if pbm {
-        print_pbm(out, &mut pixels[..n], w, h);
+        print_pbm(out, &mut pixels[..n], w, h)
     } else {
-        print_text(out, &mut pixels[..n], w);
+        print_text(out, &mut pixels[..n], w)
     }
 }
 
 // Why nothing is drawn, in a line: 16 is said in words.
-fn say_refused(err: i32, x: Refusal, place: usize, code: usize) {
+fn say_refused<E: Write>(err: &mut E, x: Refusal, place: usize, code: usize) -> io::Result<()> {
     if x.0 == 16 {
-        io::write_all(err, b"look: the font has no character ");
-        io::print_decimal(err, code as u64);
+        writeln!(err, "look: the font has no character {code}")
     } else {
-        io::write_all(err, b"look: the font is refused, number ");
-        io::print_decimal(err, x.0 as u64);
-        io::write_all(err, b" of document 01, at byte ");
-        io::print_decimal(err, place as u64);
+        let number = x.0;
+        writeln!(
+            err,
+            "look: the font is refused, number {number} of document 01, at byte {place}"
+        )
     }
-    io::write_all(err, b"\n");
 }
 
 // A code of a font drawn and printed.
-fn show(font: &[u8], code: usize, pbm: bool, out: i32, err: i32) {
+fn show<O: Write, E: Write>(
+    font: &[u8],
+    code: usize,
+    pbm: bool,
+    out: &mut O,
+    err: &mut E,
+) -> io::Result<()> {
     let mut pixels = [0u8; 65536];
     let buf: &mut [u8] = &mut pixels;
     let drawn = draw::draw(font, code, buf);
     match drawn {
-        Drawn::Measured(m) => {
-            print_picture(m, code, buf, pbm, out, err);
-        }
-        Drawn::Refused(x, place) => {
-            say_refused(err, x, place, code);
-        }
+        Drawn::Measured(m) => print_picture(m, code, buf, pbm, out, err),
+        Drawn::Refused(x, place) => say_refused(err, x, place, code),
     }
 }
 
 // A line about a path.
-fn say_path(err: i32, words: &[u8], path: &[u8]) {
-    io::write_all(err, words);
-    io::write_all(err, path);
-    io::write_all(err, b"\n");
+fn say_path<E: Write>(err: &mut E, words: &[u8], path: &[u8]) -> io::Result<()> {
+    err.write_all(words)?;
+    err.write_all(path)?;
+    err.write_all(b"\n")
+}
+
+// The file of a path, which std takes as text.
+fn open<R: Files>(rt: &R, path: &[u8]) -> Option<R::File> {
+    let name = str::from_utf8(path).ok()?;
+    File::open(rt, name).ok()
 }
 
 // The character of a code that a text names, in the font of a path. A byte more than a font may have is read: no font is cut off.
-fn look(path: &[u8], text: &[u8], pbm: bool, out: i32, err: i32) {
+// Its room is made first: where nothing is read, it is not for lack of memory. A read that fails later is an error, and nothing is drawn.
+fn look<R: Files + Alloc, O: Write, E: Write>(
+    rt: &R,
+    path: &[u8],
+    text: &[u8],
+    pbm: bool,
+    out: &mut O,
+    err: &mut E,
+) -> io::Result<()> {
     let asked = code_of(text);
     let Asked::Code(code) = asked else {
-        io::write_all(err, b"look: a code is a number from 0 to 255\n");
-        return;
+        return err.write_all(b"look: a code is a number from 0 to 255\n");
     };
-    let fd = os::open_read(path);
-    if fd < 0 {
-        say_path(err, b"look: cannot open ", path);
-        return;
+    let Some(file) = open(rt, path) else {
+        return say_path(err, b"look: cannot open ", path);
+    };
+    let mut font = Vec::with_capacity(rt.alloc(), 65537)?;
+    let read = file.take(65537).read_to_end(&mut font);
+    if font.is_empty() {
+        return say_path(err, b"look: nothing to read in ", path);
     }
-    let mut font = [0u8; 65537];
-    let n = io::read_full(fd, &mut font);
-    libc::close(fd);
-    if n == 0 {
-        say_path(err, b"look: nothing to read in ", path);
-        return;
-    }
-    show(&font[..n], code, pbm, out, err);
+    read?;
+    show(font.as_slice(), code, pbm, out, err)
 }
 
 // The word that asks for a PBM.
@@ -194,14 +213,20 @@ fn is_pbm(word: &[u8]) -> bool {
 }
 
 // The program with so many arguments, its own name among them: a path, a code and, if a third is there, pbm.
-pub fn run(count: usize, path: &[u8], code: &[u8], word: &[u8], out: i32, err: i32) {
+pub fn run<R: Files + Alloc, O: Write, E: Write>(
+    rt: &R,
+    count: usize,
+    path: &[u8],
+    code: &[u8],
+    word: &[u8],
+    out: &mut O,
+    err: &mut E,
+) -> io::Result<()> {
     if count == 3 {
-        look(path, code, false, out, err);
-        return;
+        return look(rt, path, code, false, out, err);
     }
     if (count == 4) & is_pbm(word) {
-        look(path, code, true, out, err);
-        return;
+        return look(rt, path, code, true, out, err);
     }
-    say_usage(err);
+    say_usage(err)
 }

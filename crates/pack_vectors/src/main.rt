@@ -3,14 +3,17 @@
 // PLACE`. Behind any other byte stands a font, after its length in four bytes: each code that it has is drawn and packed again, and
 // its line is `CODE ok LENGTH MARK` or `CODE refuse NUMBER PLACE`. At the end of a line stands `touched` if a byte was written that
 // must stay. A case that is cut off, or that has more room than the program's buffer, gets the line `bad case`.
+#![tactic(auto)]
+
 ghost use Rattle.std.specs.Prelude.{◌+◌, ◌≤◌, length};
 
 use cases::Block;
 use escapement::Scaled;
 use glyph::Drawn;
-use libc::{STDIN_FILENO, STDOUT_FILENO};
 use measures::Measures;
 use pack::Packed;
+use std::io;
+use std::io::{BufWriter, Read, Write};
 
 // The bytes before a bitmap: the kind, eight measures of eight bytes, the room and the length.
 const BITMAP_HEAD: usize = 73;
@@ -19,19 +22,18 @@ const BITMAP_HEAD: usize = 73;
 const FONT_HEAD: usize = 5;
 
 // The line of an answer.
-fn print_line(packed: Packed, bytes: &[u8]) {
+fn print_line<W: Write>(out: &mut W, packed: Packed, bytes: &[u8]) -> io::Result<()> {
     match packed {
         Packed::Length(n) => {
-            io::write_all(STDOUT_FILENO, b"ok ");
-            io::print_decimal(STDOUT_FILENO, n as u64);
-            lines::print_marked(bytes, n);
+            write!(out, "ok {n}")?;
+            lines::print_marked(out, bytes, n)?;
         }
         Packed::Refused(x, at) => {
-            lines::print_refusal(x, at);
-            lines::print_touched(bytes, 0);
+            lines::print_refusal(out, x, at)?;
+            lines::print_touched(out, bytes, 0)?;
         }
     }
-    io::write_all(STDOUT_FILENO, b"\n");
+    out.write_all(b"\n")
 }
 
 // The eight bytes from at on in two's complement.
@@ -65,54 +67,56 @@ fn measures_from(s: &[u8], at: usize) -> Measures
 }
 
 // A bitmap packed into a buffer of so much room.
-fn pack_one(bitmap: &[u8], m: Measures, room: usize) {
+fn pack_one<W: Write>(out: &mut W, bitmap: &[u8], m: Measures, room: usize) -> io::Result<()> {
     let mut bytes = lines::old_bytes();
     if lines::ROOM < room {
-        lines::print_bad();
-        return;
+        return lines::print_bad(out);
     }
     let packed = pack::pack(bitmap, m, &mut bytes[..room]);
-    print_line(packed, &bytes);
+    print_line(out, packed, &bytes)
 }
 
 // The pixels of a drawn code, packed again.
-fn pack_again(pixels: &[u8], code: usize, m: Measures) {
+fn pack_again<W: Write>(out: &mut W, pixels: &[u8], code: usize, m: Measures) -> io::Result<()> {
     let n = lines::area(sign::magnitude(m.w), sign::magnitude(m.h));
     if pixels.len() < n {
-        return;
+        return Ok(());
     }
-    io::print_decimal(STDOUT_FILENO, code as u64);
-    io::write_all(STDOUT_FILENO, b" ");
-    pack_one(&pixels[..n], m, lines::ROOM);
+    write!(out, "{code} ")?;
+    pack_one(out, &pixels[..n], m, lines::ROOM)
 }
 
 // A code of a font drawn, and packed again.
-fn repack(font: &[u8], code: usize) {
+fn repack<W: Write>(out: &mut W, font: &[u8], code: usize) -> io::Result<()> {
     let mut pixels = lines::old_bytes();
     let drawn = draw::draw(font, code, &mut pixels);
     match drawn {
-        Drawn::Measured(m) => {
-            pack_again(&pixels, code, m);
-        }
-        Drawn::Refused(_, _) => {}
+        Drawn::Measured(m) => pack_again(out, &pixels, code, m),
+        Drawn::Refused(_, _) => Ok(()),
     }
 }
 
 // Each code of a font.
-fn repack_each(font: &[u8]) {
+fn repack_each<W: Write>(out: &mut W, font: &[u8]) -> io::Result<()> {
     let mut code: usize = 0;
     while code < 256 {
-        repack(font, code);
+        repack(out, font, code)?;
         code += 1;
     }
+    Ok(())
 }
 
 // The bitmap from begin to end, packed; its measures and the room stand before it.
-fn bitmap_case(cases: &[u8], begin: usize, end: usize)
+fn bitmap_case<W: Write>(out: &mut W, cases: &[u8], begin: usize, end: usize) -> io::Result<()>
     requires { (72 ≤ begin) × (begin ≤ end) × (end ≤ length cases.now) }
 {
     let room = fields::number_at(cases, begin - 8, 4) as usize;
-    pack_one(&cases[begin..end], measures_from(cases, begin - 72), room);
+    pack_one(
+        out,
+        &cases[begin..end],
+        measures_from(cases, begin - 72),
+        room,
+    )
 }
 
 // How many bytes the head of a case has that begins with this byte.
@@ -123,27 +127,30 @@ fn head_of(kind: u8) -> usize
 }
 
 // Each case.
-fn pack_each(cases: &[u8]) {
+#[tactic(auto, using(cases::proofs::BlockLaws::whole_stands))]
+fn pack_each<W: Write>(out: &mut W, cases: &[u8]) -> io::Result<()> {
     let mut at: usize = 0;
     while at < cases.len() {
         let head = head_of(cases[at]);
         let block = cases::block_at(cases, at, head);
         let Block::Whole(begin, end) = block else {
-            lines::print_bad();
-            return;
+            return lines::print_bad(out);
         };
         if head == BITMAP_HEAD {
-            bitmap_case(cases, begin, end);
+            bitmap_case(out, cases, begin, end)?;
         } else {
-            repack_each(&cases[begin..end]);
+            repack_each(out, &cases[begin..end])?;
         }
         at = end;
     }
+    Ok(())
 }
 
 // All cases of standard input.
-fn main() {
-    let mut cases = [0u8; 524288];
-    let n = io::read_full(STDIN_FILENO, &mut cases);
-    pack_each(&cases[..n]);
+fn main(rt: HostRuntime) -> io::Result<()> {
+    let mut cases = Vec::new(rt.alloc());
+    rt.reader().take(524288).read_to_end(&mut cases)?;
+    let mut out = BufWriter::new(rt.alloc(), io::writer(&rt))?;
+    pack_each(&mut out, cases.as_slice())?;
+    out.flush()
 }

@@ -7,7 +7,6 @@ use lib.ListN.{length, take, drop, length-append, take-append-drop}
 use lib.Seq.{drop-append_seam, take-append_seam}
 use borrow.Author.Tests.{ltb-true}
 use Rattle.format.specs.Limits.{is_code}
-use Rattle.format.specs.Refusals.{ok}
 use Rattle.format.specs.Numbers.{Bytes, field_bytes}
 use Rattle.format.specs.Pieces as F
 use Rattle.format.specs.Pieces.{kinds, fields, flag, bytes_of}

@@ -7,7 +7,6 @@ use Rattle.format.specs.Measures as F
 use Rattle.format.specs.Pieces.{Form, short, extended, long, Packet}
 use Rattle.format.specs.Choice.{in_form, first_form}
 use Rattle.escapement.specs.Count.{whole_of}
-use Rattle.escapement.specs.declared.Pixels.{Pixels}
 use Rattle.pick.specs.declared.Picked.{Picked}
 use Rattle.pick.specs.declared.Picked.TheVariants.{Short, Extended, Long, Nothing}
 

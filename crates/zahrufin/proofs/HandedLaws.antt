@@ -8,13 +8,10 @@ use Rattle.measures.specs.declared.Measures.{Measures}
 use Rattle.measures.specs.Said.{said}
 use Rattle.font.specs.Answer as C
 use Rattle.font.specs.declared.Checked.{Checked}
-use Rattle.font.specs.declared.Checked.TheVariants as Checked
 use Rattle.glyph.specs.Answer as D
 use Rattle.glyph.specs.declared.Drawn.{Drawn}
-use Rattle.glyph.specs.declared.Drawn.TheVariants as Drawn
 use Rattle.pack.specs.Answer as P
 use Rattle.pack.specs.declared.Packed.{Packed}
-use Rattle.pack.specs.declared.Packed.TheVariants as Packed
 use Rattle.zahrufin.specs.Handed.{plain_of, no_measures, checked_for, drawn_for, packed_for}
 use Rattle.zahrufin.specs.declared.PlainMeasures.{PlainMeasures}
 use Rattle.zahrufin.specs.declared.PlainChecked.{PlainChecked}

@@ -1,5 +1,7 @@
-// The public calls for C, as include/zahrufin.h declares them: structs by value, answers in 01's numbers, and 0 in each field that an
-// answer does not use.
+// The public calls as C takes them, as include/zahrufin.h declares them: structs by value, answers in 01's numbers, and 0 in each field
+// that an answer does not use. C calls them by the exports of zahrufin_c.
+#![tactic(auto)]
+
 ghost use Rattle.std.specs.Prelude.{◌≡◌};
 ghost use Rattle.format.specs.Refusals.{told};
 ghost use Rattle.format.specs.Verdict.{check};
@@ -16,7 +18,7 @@ use pack::Packed;
 
 // zahrufin_measures.
 #[repr(C)]
-#[derive(Drop)]
+#[derive(Clone, Copy)]
 pub struct PlainMeasures {
     pub code: i64,
     pub w: i64,
@@ -30,7 +32,7 @@ pub struct PlainMeasures {
 
 // zahrufin_checked.
 #[repr(C)]
-#[derive(Drop)]
+#[derive(Clone, Copy)]
 pub struct PlainChecked {
     pub refusal: u32,
     pub place: u32,
@@ -39,7 +41,7 @@ pub struct PlainChecked {
 
 // zahrufin_drawn.
 #[repr(C)]
-#[derive(Drop)]
+#[derive(Clone, Copy)]
 pub struct PlainDrawn {
     pub refusal: u32,
     pub place: u32,
@@ -48,7 +50,7 @@ pub struct PlainDrawn {
 
 // zahrufin_packed.
 #[repr(C)]
-#[derive(Drop)]
+#[derive(Clone, Copy)]
 pub struct PlainPacked {
     pub refusal: u32,
     pub place: u32,
@@ -106,8 +108,7 @@ fn none() -> PlainMeasures
 }
 
 // font::check for C.
-#[unsafe(no_mangle)]
-pub extern "C" fn zahrufin_check(font: &[u8]) -> PlainChecked
+pub fn zahrufin_check(font: &[u8]) -> PlainChecked
     ensures { result ≡ checked_for (told (check font.now)) }
 {
     let checked = font::check(font);
@@ -126,8 +127,7 @@ pub extern "C" fn zahrufin_check(font: &[u8]) -> PlainChecked
 }
 
 // draw::draw for C.
-#[unsafe(no_mangle)]
-pub extern "C" fn zahrufin_draw(font: &[u8], code: u64, pixels: &mut [u8]) -> PlainDrawn
+pub fn zahrufin_draw(font: &[u8], code: u64, pixels: &mut [u8]) -> PlainDrawn
     ensures value { result ≡ drawn_for (told (draw_answer font.now code pixels.old)) }
     ensures pixels_after { pixels.new ≡ draw_buffer font.now code pixels.old }
 {
@@ -147,12 +147,7 @@ pub extern "C" fn zahrufin_draw(font: &[u8], code: u64, pixels: &mut [u8]) -> Pl
 }
 
 // pack::pack for C.
-#[unsafe(no_mangle)]
-pub extern "C" fn zahrufin_pack(
-    bitmap: &[u8],
-    measures: PlainMeasures,
-    packet: &mut [u8],
-) -> PlainPacked
+pub fn zahrufin_pack(bitmap: &[u8], measures: PlainMeasures, packet: &mut [u8]) -> PlainPacked
     ensures value { result ≡ packed_for (told (pack_answer bitmap.now (measures_of measures) packet.old)) }
     ensures packet_after { packet.new ≡ pack_buffer bitmap.now (measures_of measures) packet.old }
 {

@@ -1,5 +1,4 @@
 use Rattle.bit_bytes.proofs.EightLaws.{bits_start, bits_room, bits_more, bits_end, bits_is}
-use Prim.Native.Nat.{◌-◌}
 use native.Mathlib.Omega.{arith}
 use Rattle.bit_bytes.proofs.write_bits.Goals as goal
 

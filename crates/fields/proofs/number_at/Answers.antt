@@ -1,4 +1,3 @@
-use Prim.Native.Nat.{◌-◌}
 use native.Mathlib.Omega.{arith}
 use Rattle.fields.proofs.Rebuilt.{rebuilt_start, rebuilt_step, rebuilt_end}
 use Rattle.fields.proofs.number_at.Goals as goal

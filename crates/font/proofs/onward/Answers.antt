@@ -1,4 +1,3 @@
-use Prim.Native.Nat.{◌-◌}
 use native.Mathlib.Omega.{arith}
 use Rattle.format.proofs.FieldLaws.{bytes_of_lem}
 use Rattle.font.proofs.GoingLaws.{going_start, goes}

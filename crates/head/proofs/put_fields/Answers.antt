@@ -1,6 +1,5 @@
 use Rattle.head.proofs.FieldLaws.{rest_start, rest_asks, rest_more, rest_end}
 use borrow.Author.Rules.{rules}
-use Prim.Native.Nat.{◌-◌}
 use native.Mathlib.Omega.{arith}
 use Rattle.head.proofs.put_fields.Goals as goal
 

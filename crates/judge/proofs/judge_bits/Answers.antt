@@ -1,5 +1,5 @@
 use native.Mathlib.Omega.{arith}
-use Rattle.judge.proofs.BitLaws.{value_some, bits_few, bits_many, bits_bad, bits_whole}
+use Rattle.judge.proofs.BitLaws.{bits_few, bits_many, bits_bad, bits_whole}
 use Rattle.judge.proofs.judge_bits.Goals as goal
 
 pub returns-then-s-k : goal.returns-then-s-k
@@ -17,4 +17,3 @@ pub returns : goal.returns
 returns c =
     let v = c.values_of in
     bits_whole _ _ _ (omega arith) (omega arith) (omega arith) c.wide-last.result c.wide-last.ensures.0 c.wide-last.ensures.1 v.result v.ensures (omega arith)
-

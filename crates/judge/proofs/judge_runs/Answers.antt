@@ -1,5 +1,4 @@
 use mathlib.Core.Path.{sym, subst}
-use Prim.Native.Nat.{◌-◌}
 use native.Mathlib.Omega.{arith}
 use Rattle.format.proofs.FieldLaws.{bytes_of_lem}
 use Rattle.state.specs.Moves.{plain}

@@ -1,4 +1,3 @@
-use Prim.Native.Nat.{◌-◌}
 use native.Mathlib.Omega.{arith}
 use Rattle.listing.proofs.NextLaws.{going_start, goes}
 use Rattle.listing.proofs.next_packet.Goals as goal

@@ -1,4 +1,3 @@
-use Prim.Native.Nat.{◌-◌}
 use native.Mathlib.Omega.{arith}
 use Rattle.pack.proofs.TestLaws.{pixel_start, pixel_more, pixels_all}
 use Rattle.pack.proofs.all_pixels.Goals as goal

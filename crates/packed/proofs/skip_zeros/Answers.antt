@@ -1,4 +1,3 @@
-use Prim.Native.Nat.{◌-◌}
 use native.Mathlib.Omega.{arith}
 use Rattle.packed.proofs.Part.{passed_none, passed_step, passed_all}
 use Rattle.packed.proofs.skip_zeros.Goals as goal

@@ -1,4 +1,3 @@
-use borrow.Author.Tests.{not-true, not-false}
 use mathlib.Core.Path.{sym, ◌∙◌}
 use native.Mathlib.Omega.{arith}
 use Rattle.packet.proofs.JudgedLaws.{judged_few, judged_negative, judged_cut, judged_outside, judged_code, judged_packet}

@@ -1,4 +1,3 @@
-use Prim.Native.Nat.{◌-◌}
 use native.Mathlib.Omega.{arith}
 use Rattle.part.proofs.KeptLaws.{walked_none, walked_more, length_fits, kept_over, kept_full}
 use Rattle.part.proofs.part_from.Goals as goal

@@ -1,4 +1,3 @@
-use Prim.Native.Nat.{◌-◌}
 use native.Mathlib.Omega.{arith}
 use Rattle.part.proofs.KeptLaws.{kept_less}
 use Rattle.run_bytes.proofs.WritingLaws.{writing_start, writing_asks, writing_more, writing_end}

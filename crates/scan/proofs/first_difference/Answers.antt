@@ -1,4 +1,4 @@
-use Rattle.std.proofs.Common.{◌-◌, arith}
+use Rattle.std.proofs.Common.{arith}
 use Rattle.scan.proofs.WordLaws.{difference_stop, difference_more, difference_last}
 use Rattle.scan.proofs.FirstLaws.{below_none}
 use Rattle.scan.proofs.first_difference.Goals as goal

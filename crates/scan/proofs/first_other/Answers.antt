@@ -1,4 +1,4 @@
-use Rattle.std.proofs.Common.{◌-◌, arith}
+use Rattle.std.proofs.Common.{arith}
 use Rattle.scan.proofs.WordLaws.{other_stop, other_more, other_last}
 use Rattle.scan.proofs.FirstLaws.{below_none}
 use Rattle.scan.proofs.first_other.Goals as goal

@@ -1,4 +1,4 @@
-use Rattle.std.proofs.Common.{◌-◌, arith}
+use Rattle.std.proofs.Common.{arith}
 use Rattle.scan.proofs.FirstLaws.{below_none, below_one, first_here, first_none}
 use Rattle.scan.proofs.other_byte.Goals as goal
 

@@ -1,4 +1,3 @@
-use Prim.Native.Nat.{◌-◌}
 use native.Mathlib.Omega.{arith}
 use Rattle.size.proofs.TotalLaws.{half_start, half_more, half_end, half_small}
 use Rattle.size.proofs.add_short.Goals as goal

@@ -1,4 +1,3 @@
-use Prim.Native.Nat.{◌-◌}
 use native.Mathlib.Omega.{arith}
 use Rattle.part.proofs.KeptLaws.{kept_less}
 use Rattle.size.proofs.TotalLaws.{sum_start, sum_asks, sum_more, sum_end}

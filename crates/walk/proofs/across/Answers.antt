@@ -1,4 +1,3 @@
-use Prim.Native.Nat.{◌-◌}
 use native.Mathlib.Omega.{arith}
 use Rattle.walk.proofs.RunLaws.{waiting_start, waiting_full, next_row, stopped, closed_row, closed_next, closed_over, row_in, at_most, shorter}
 use Rattle.walk.proofs.across.Goals as goal

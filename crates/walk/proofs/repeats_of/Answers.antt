@@ -1,4 +1,3 @@
-use Prim.Native.Nat.{◌-◌}
 use native.Mathlib.Omega.{arith}
 use Rattle.walk.proofs.RowLaws.{row_whole, equal_start, equal_room, equal_more, equal_stop, equal_end, equal_plain}
 use Rattle.walk.proofs.PixelLaws.{off, on}

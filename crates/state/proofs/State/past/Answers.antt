@@ -3,7 +3,6 @@ use mathlib.Core.Path.{◌∙◌}
 use native.Mathlib.Nat.{div-mul-le_self}
 use native.Mathlib.Omega.{arith}
 use Rattle.state.proofs.MoveLaws.{no_end, one_end, some_end}
-use borrow.Author.Rules.{rules}
 use Rattle.state.proofs.State.past.Goals as goal
 
 pub returns-then-column-w : goal.returns-then-column-w
