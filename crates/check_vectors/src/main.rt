@@ -5,7 +5,7 @@
 use cases::Block;
 use font::Checked;
 use std::io;
-use std::io::{BufWriter, Read, Write};
+use std::io::Write;
 
 // The line of an answer.
 fn print_line<W: Write>(out: &mut W, checked: Checked) -> io::Result<()> {
@@ -35,11 +35,15 @@ fn check_each<W: Write>(out: &mut W, cases: &[u8]) -> io::Result<()> {
     Ok(())
 }
 
+// A buffer for the cases.
+fn empty() -> [u8; 524288] {
+    [0; 524288]
+}
+
 // All cases of standard input.
 fn main(rt: HostRuntime) -> io::Result<()> {
-    let mut cases = Vec::new(rt.alloc());
-    rt.reader().take(524288).read_to_end(&mut cases)?;
-    let mut out = BufWriter::new(rt.alloc(), io::writer(&rt))?;
-    check_each(&mut out, cases.as_slice())?;
-    out.flush()
+    let mut cases = empty();
+    let (n, read) = lines::read_full(&mut rt.reader(), &mut cases);
+    read?;
+    check_each(&mut io::writer(&rt), &cases[..n])
 }

@@ -10,7 +10,7 @@ use cases::Block;
 use glyph::Drawn;
 use measures::Measures;
 use std::io;
-use std::io::{BufWriter, Read, Write};
+use std::io::Write;
 
 // A number behind a space.
 fn print_next<W: Write>(out: &mut W, n: i64) -> io::Result<()> {
@@ -101,11 +101,15 @@ fn draw_each<W: Write>(out: &mut W, cases: &[u8]) -> io::Result<()> {
     Ok(())
 }
 
+// A buffer for the cases.
+fn empty() -> [u8; 524288] {
+    [0; 524288]
+}
+
 // All cases of standard input.
 fn main(rt: HostRuntime) -> io::Result<()> {
-    let mut cases = Vec::new(rt.alloc());
-    rt.reader().take(524288).read_to_end(&mut cases)?;
-    let mut out = BufWriter::new(rt.alloc(), io::writer(&rt))?;
-    draw_each(&mut out, cases.as_slice())?;
-    out.flush()
+    let mut cases = empty();
+    let (n, read) = lines::read_full(&mut rt.reader(), &mut cases);
+    read?;
+    draw_each(&mut io::writer(&rt), &cases[..n])
 }

@@ -1,12 +1,12 @@
 // What the programs print: signed numbers, refusals, and the mark that stands for many bytes; and the buffer that they lend.
 #![tactic(auto)]
 
-ghost use Rattle.std.specs.Prelude.{◌≡◌, length};
+ghost use Rattle.std.specs.Prelude.{◌≡◌, ◌≤◌, length};
 ghost use Rattle.lines.specs.Marks.{marked, area_of};
 
 use refusals::Refusal;
 use std::io;
-use std::io::Write;
+use std::io::{Read, Write};
 
 // What stands in a lent buffer before a call.
 const OLD: u8 = 170;
@@ -82,6 +82,21 @@ pub fn area(w: u64, h: u64) -> usize
         return 0;
     }
     (w * h) as usize
+}
+
+// A buffer filled from a reader as far as its input goes: how many bytes came, and how the reading ended.
+pub fn read_full<R: Read>(reader: &mut R, buf: &mut [u8]) -> (usize, io::Result<()>)
+    ensures { result.0 ≤ length buf.new }
+{
+    let mut n: usize = 0;
+    while n < buf.len() {
+        match reader.read(&mut buf[n..]) {
+            Ok(0) => return (n, Ok(())),
+            Ok(k) => n += k,
+            Err(e) => return (n, Err(e)),
+        }
+    }
+    (n, Ok(()))
 }
 
 // The line of a case that is cut short, or that asks for too much room.

@@ -5,7 +5,7 @@
 use cases::Block;
 use std::fs::File;
 use std::io;
-use std::io::{BufWriter, Read, Write};
+use std::io::Write;
 
 // Each font of the cases.
 #[tactic(auto, using(cases::proofs::BlockLaws::whole_stands))]
@@ -24,10 +24,10 @@ fn list_each<W: Write>(out: &mut W, cases: &[u8]) -> io::Result<()> {
 
 // All cases of standard input, and the file.
 fn main(rt: HostRuntime) -> io::Result<()> {
-    let mut cases = Vec::new(rt.alloc());
-    rt.reader().take(262144).read_to_end(&mut cases)?;
-    let mut out = BufWriter::new(rt.alloc(), io::writer(&rt))?;
-    list_each(&mut out, cases.as_slice())?;
-    list_lines::list_from(rt.alloc(), File::open(&rt, "long.pk")?, &mut out)?;
-    out.flush()
+    let mut cases = [0u8; 262144];
+    let (n, read) = lines::read_full(&mut rt.reader(), &mut cases);
+    read?;
+    let mut out = io::writer(&rt);
+    list_each(&mut out, &cases[..n])?;
+    list_lines::list_from(&mut File::open(&rt, "long.pk")?, &mut out)
 }

@@ -108,12 +108,9 @@ pub fn print_listing<W: Write>(out: &mut W, font: &[u8]) -> io::Result<()> {
 }
 
 // The listing of the font that a reader gives. A byte more than a font may have is read, so that a longer file is refused, and none is cut off.
-pub fn list_from<R: Read + Drop, W: Write>(
-    alloc: Global,
-    reader: R,
-    out: &mut W,
-) -> io::Result<()> {
-    let mut font = Vec::new(alloc);
-    reader.take(65537).read_to_end(&mut font)?;
-    print_listing(out, font.as_slice())
+pub fn list_from<R: Read, W: Write>(reader: &mut R, out: &mut W) -> io::Result<()> {
+    let mut font = [0u8; 65537];
+    let (n, read) = lines::read_full(reader, &mut font);
+    read?;
+    print_listing(out, &font[..n])
 }

@@ -3,7 +3,6 @@
 
 use std::env::{Env, FillError};
 use std::io;
-use std::io::{BufWriter, Write};
 
 // How many arguments there are, the program's own name among them.
 fn arg_count(rt: &impl Env) -> usize {
@@ -23,15 +22,13 @@ fn main(rt: HostRuntime) -> io::Result<()> {
     let n = rt.arg(1, &mut path).unwrap_or(0);
     let k = rt.arg(2, &mut code).unwrap_or(0);
     let m = rt.arg(3, &mut word).unwrap_or(0);
-    let mut out = BufWriter::new(rt.alloc(), io::writer(&rt))?;
     looking::run(
         &rt,
         arg_count(&rt),
         &path[..n],
         &code[..k],
         &word[..m],
-        &mut out,
+        &mut io::writer(&rt),
         &mut rt.stderr(),
-    )?;
-    out.flush()
+    )
 }

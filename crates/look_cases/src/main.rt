@@ -5,7 +5,7 @@ use std::io;
 use std::rt::Files;
 
 // The program with so many arguments, both of its outputs the standard output.
-fn run<R: Files + Alloc + Print>(
+fn run<R: Files + Print>(
     rt: &R,
     count: usize,
     path: &[u8],
@@ -18,20 +18,20 @@ fn run<R: Files + Alloc + Print>(
 }
 
 // The program with two arguments, then with pbm as a third.
-fn both<R: Files + Alloc + Print>(rt: &R, path: &[u8], code: &[u8]) -> io::Result<()> {
+fn both<R: Files + Print>(rt: &R, path: &[u8], code: &[u8]) -> io::Result<()> {
     run(rt, 3, path, code, b"")?;
     run(rt, 4, path, code, b"pbm")
 }
 
 // Characters.
-fn pictures<R: Files + Alloc + Print>(rt: &R) -> io::Result<()> {
+fn pictures<R: Files + Print>(rt: &R) -> io::Result<()> {
     both(rt, b"cmr10.72.pk", b"103")?;
     both(rt, b"cmex10.300.pk", b"32")?;
     both(rt, b"cmsy10.300.pk", b"0110")
 }
 
 // Codes that are none, or that the font lacks.
-fn codes<R: Files + Alloc + Print>(rt: &R) -> io::Result<()> {
+fn codes<R: Files + Print>(rt: &R) -> io::Result<()> {
     both(rt, b"cmr10.72.pk", b"200")?;
     both(rt, b"cmr10.72.pk", b"256")?;
     both(rt, b"cmr10.72.pk", b"100000000000000000000")?;
@@ -42,7 +42,7 @@ fn codes<R: Files + Alloc + Print>(rt: &R) -> io::Result<()> {
 }
 
 // Paths that are none, and fonts that are refused, one for a byte too many.
-fn fonts<R: Files + Alloc + Print>(rt: &R) -> io::Result<()> {
+fn fonts<R: Files + Print>(rt: &R) -> io::Result<()> {
     both(rt, b"no-such-font.pk", b"65")?;
     both(rt, b"", b"65")?;
     both(rt, b".", b"65")?;

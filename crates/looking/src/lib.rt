@@ -7,7 +7,7 @@ use glyph::Drawn;
 use measures::Measures;
 use refusals::Refusal;
 use std::fs::File;
-use std::io::{Read, Write};
+use std::io::Write;
 use std::rt::Files;
 use std::{io, str};
 
@@ -180,7 +180,7 @@ fn open<R: Files>(rt: &R, path: &[u8]) -> Option<R::File> {
 
 // The character of a code that a text names, in the font of a path. A byte more than a font may have is read: no font is cut off.
 // Its room is made first: where nothing is read, it is not for lack of memory. A read that fails later is an error, and nothing is drawn.
-fn look<R: Files + Alloc, O: Write, E: Write>(
+fn look<R: Files, O: Write, E: Write>(
     rt: &R,
     path: &[u8],
     text: &[u8],
@@ -192,16 +192,16 @@ fn look<R: Files + Alloc, O: Write, E: Write>(
     let Asked::Code(code) = asked else {
         return err.write_all(b"look: a code is a number from 0 to 255\n");
     };
-    let Some(file) = open(rt, path) else {
+    let Some(mut file) = open(rt, path) else {
         return say_path(err, b"look: cannot open ", path);
     };
-    let mut font = Vec::with_capacity(rt.alloc(), 65537)?;
-    let read = file.take(65537).read_to_end(&mut font);
-    if font.is_empty() {
+    let mut font = [0u8; 65537];
+    let (n, read) = lines::read_full(&mut file, &mut font);
+    if n == 0 {
         return say_path(err, b"look: nothing to read in ", path);
     }
     read?;
-    show(font.as_slice(), code, pbm, out, err)
+    show(&font[..n], code, pbm, out, err)
 }
 
 // The word that asks for a PBM.
@@ -213,7 +213,7 @@ fn is_pbm(word: &[u8]) -> bool {
 }
 
 // The program with so many arguments, its own name among them: a path, a code and, if a third is there, pbm.
-pub fn run<R: Files + Alloc, O: Write, E: Write>(
+pub fn run<R: Files, O: Write, E: Write>(
     rt: &R,
     count: usize,
     path: &[u8],

@@ -13,7 +13,7 @@ use glyph::Drawn;
 use measures::Measures;
 use pack::Packed;
 use std::io;
-use std::io::{BufWriter, Read, Write};
+use std::io::Write;
 
 // The bytes before a bitmap: the kind, eight measures of eight bytes, the room and the length.
 const BITMAP_HEAD: usize = 73;
@@ -146,11 +146,15 @@ fn pack_each<W: Write>(out: &mut W, cases: &[u8]) -> io::Result<()> {
     Ok(())
 }
 
+// A buffer for the cases.
+fn empty() -> [u8; 524288] {
+    [0; 524288]
+}
+
 // All cases of standard input.
 fn main(rt: HostRuntime) -> io::Result<()> {
-    let mut cases = Vec::new(rt.alloc());
-    rt.reader().take(524288).read_to_end(&mut cases)?;
-    let mut out = BufWriter::new(rt.alloc(), io::writer(&rt))?;
-    pack_each(&mut out, cases.as_slice())?;
-    out.flush()
+    let mut cases = empty();
+    let (n, read) = lines::read_full(&mut rt.reader(), &mut cases);
+    read?;
+    pack_each(&mut io::writer(&rt), &cases[..n])
 }
