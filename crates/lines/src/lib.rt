@@ -1,7 +1,8 @@
 // What the programs print: signed numbers, refusals, and the mark that stands for many bytes; and the buffer that they lend.
 #![tactic(auto)]
 
-ghost use Rattle.std.specs.Prelude.{◌≡◌, ◌≤◌, length};
+ghost use Rattle.std.specs.Prelude.{◌≡◌, ◌<◌, ◌≤◌, length, take, OnOk};
+ghost use Rattle.std.specs.Io.KnownBytes.{Consumes, IsAtEnd};
 ghost use Rattle.lines.specs.Marks.{marked, area_of};
 
 use refusals::Refusal;
@@ -86,7 +87,9 @@ pub fn area(w: u64, h: u64) -> usize
 
 // A buffer filled from a reader as far as its input goes: how many bytes came, and how the reading ended.
 pub fn read_full<R: Read>(reader: &mut R, buf: &mut [u8]) -> (usize, io::Result<()>)
-    ensures { result.0 ≤ length buf.new }
+    ensures within { result.0 ≤ length buf.new }
+    ensures bytes { Consumes (R.remaining reader.old) (R.remaining reader.new) (take result.0 buf.new) }
+    ensures end { OnOk result.1 (result.0 < length buf.new → IsAtEnd (R.remaining reader.new)) }
 {
     let mut n: usize = 0;
     while n < buf.len() {
