@@ -1,48 +1,88 @@
-// The refusals of 01's table: each is its number, and has a name.
+// The refusals of 01's table, by name, and a refusal with its place.
 #![tactic(auto)]
 
-// The number of a row.
-#[derive(Clone, Copy)]
-pub struct Refusal(pub usize);
+ghost use Rattle.std.specs.Prelude.{◌≡◌, ◌+◌};
+ghost use Rattle.refusals.specs.Names.{number_of};
+
+use std::error::Error;
+use std::fmt;
+
+/// A row of the table.
+#[derive(Clone, Copy, Debug, PartialEq, Eq)]
+pub enum Refusal {
+    TooLong,
+    NoPreamble,
+    WrongId,
+    FileEnds,
+    NoPiece,
+    BadLength,
+    OutsideLimits,
+    BadCode,
+    CodeTwice,
+    RasterEnds,
+    TooMany,
+    SecondRepeat,
+    LeftOver,
+    BadEnding,
+    NoPacket,
+    NoSuchCode,
+    NoRoom,
+    BitmapOutsideLimits,
+    BadBitmap,
+    NoForm,
+}
 
 impl Refusal {
-    pub const TOO_LONG: Refusal = Refusal(1);
+    /// The number of the row.
+    pub fn number(self) -> u32
+        ensures { result ≡ number_of self }
+    {
+        match self {
+            Refusal::TooLong => 1,
+            Refusal::NoPreamble => 2,
+            Refusal::WrongId => 3,
+            Refusal::FileEnds => 4,
+            Refusal::NoPiece => 5,
+            Refusal::BadLength => 6,
+            Refusal::OutsideLimits => 7,
+            Refusal::BadCode => 8,
+            Refusal::CodeTwice => 9,
+            Refusal::RasterEnds => 10,
+            Refusal::TooMany => 11,
+            Refusal::SecondRepeat => 12,
+            Refusal::LeftOver => 13,
+            Refusal::BadEnding => 14,
+            Refusal::NoPacket => 15,
+            Refusal::NoSuchCode => 16,
+            Refusal::NoRoom => 17,
+            Refusal::BitmapOutsideLimits => 18,
+            Refusal::BadBitmap => 19,
+            Refusal::NoForm => 20,
+        }
+    }
 
-    pub const NO_PREAMBLE: Refusal = Refusal(2);
-
-    pub const WRONG_ID: Refusal = Refusal(3);
-
-    pub const FILE_ENDS: Refusal = Refusal(4);
-
-    pub const NO_PIECE: Refusal = Refusal(5);
-
-    pub const BAD_LENGTH: Refusal = Refusal(6);
-
-    pub const OUTSIDE_LIMITS: Refusal = Refusal(7);
-
-    pub const BAD_CODE: Refusal = Refusal(8);
-
-    pub const CODE_TWICE: Refusal = Refusal(9);
-
-    pub const RASTER_ENDS: Refusal = Refusal(10);
-
-    pub const TOO_MANY: Refusal = Refusal(11);
-
-    pub const SECOND_REPEAT: Refusal = Refusal(12);
-
-    pub const LEFT_OVER: Refusal = Refusal(13);
-
-    pub const BAD_ENDING: Refusal = Refusal(14);
-
-    pub const NO_PACKET: Refusal = Refusal(15);
-
-    pub const NO_SUCH_CODE: Refusal = Refusal(16);
-
-    pub const NO_ROOM: Refusal = Refusal(17);
-
-    pub const BITMAP_OUTSIDE_LIMITS: Refusal = Refusal(18);
-
-    pub const BAD_BITMAP: Refusal = Refusal(19);
-
-    pub const NO_FORM: Refusal = Refusal(20);
+    /// The refusal of a call, with the start of the piece at fault, or 0.
+    pub fn at(self, place: usize) -> Refused
+        ensures { (result.refusal ≡ self) × (result.place ≡ place) }
+    {
+        Refused {
+            refusal: self,
+            place,
+        }
+    }
 }
+
+/// What a call answers that refuses: the row, and the start of the piece at fault, which is 0 where no piece is.
+#[derive(Clone, Copy, Debug, PartialEq, Eq)]
+pub struct Refused {
+    pub refusal: Refusal,
+    pub place: usize,
+}
+
+impl fmt::Display for Refused {
+    fn fmt<W: fmt::Write>(&self, f: &mut fmt::Formatter<W>) -> fmt::Result {
+        write!(f, "refuse {} {}", self.refusal.number(), self.place)
+    }
+}
+
+impl Error for Refused {}
