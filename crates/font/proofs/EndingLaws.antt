@@ -15,10 +15,9 @@ use Rattle.format.specs.Refusals.{bad_ending, no_packet, answers}
 use Rattle.format.specs.Cut.{packets}
 use Rattle.format.specs.Verdict.{is_nil, ending}
 use Rattle.format.proofs.Tests.{false_and}
-use Rattle.refusals.specs.Names.{coded}
-use Rattle.font.specs.Answer.{to_checked}
+use Rattle.std.specs.Prelude.{Ok, Err}
+use Rattle.refusals.specs.Answers.{refused_at, to_result}
 use Rattle.font.specs.Turns.{IsEnding}
-use Rattle.font.specs.declared.Checked.TheVariants.{Chars, Refused}
 
 -- Only 246.
 
@@ -48,22 +47,22 @@ no_codes [] e = refl
 no_codes (c ∷ codes) e = absurd (omega arith)
 
 module _ (s : List ℕ) (at n : ℕ) where
-  pub ending_none : n ≡ 0 → IsEnding s at n (Refused (coded no_packet) at)
-  unfolding to_checked answers ending
+  pub ending_none : n ≡ 0 → IsEnding s at n (Err (refused_at no_packet at))
+  unfolding to_result answers ending
   ending_none z a codes e = rw (no_codes codes (e ∙ z)) refl
 
   module _ (l : at < length s) (z : n ≡ 0 → ⊥) where
     whole : at + 1 + length (drop (at + 1) s) ≡ length s
     whole = rw (length-drop (at + 1) s) (omega arith)
 
-    pub ending_four : (length s % 4 ≡ 0 → ⊥) → IsEnding s at n (Refused (coded bad_ending) at)
-    unfolding to_checked answers ending
+    pub ending_four : (length s % 4 ≡ 0 → ⊥) → IsEnding s at n (Err (refused_at bad_ending at))
+    unfolding to_result answers ending
     ending_four f a codes e = rw (some_codes codes n e z, whole, false_and (all 246 (drop (at + 1) s)) (eqb (length s % 4) 0) (inr (ne_eqb (length s % 4) 0 f))) refl
 
-    pub ending_other : false ≡ all 246 (drop (at + 1) s) → IsEnding s at n (Refused (coded bad_ending) at)
-    unfolding to_checked answers ending
+    pub ending_other : false ≡ all 246 (drop (at + 1) s) → IsEnding s at n (Err (refused_at bad_ending at))
+    unfolding to_result answers ending
     ending_other f a codes e = rw (some_codes codes n e z, ← f) refl
 
-    pub ending_whole : length s % 4 ≡ 0 → true ≡ all 246 (drop (at + 1) s) → IsEnding s at n (Chars n)
-    unfolding to_checked answers ending packets
-    ending_whole f g a codes e = rw (some_codes codes n e z, whole, ← g, eq-eqb (length s % 4) 0 f) (ap Chars (omega arith))
+    pub ending_whole : length s % 4 ≡ 0 → true ≡ all 246 (drop (at + 1) s) → IsEnding s at n (Ok n)
+    unfolding to_result answers ending packets
+    ending_whole f g a codes e = rw (some_codes codes n e z, whole, ← g, eq-eqb (length s % 4) 0 f) (ap Ok (omega arith))
