@@ -14,65 +14,57 @@ use refusals::Refusal;
 pub const PREAMBLE: usize = 19;
 
 // 240 to 243: a length in k bytes, which stand at `at`, then that many bytes, which are stepped over.
-fn special(font: &[u8], at: usize, k: usize) -> Piece
+fn special(font: &[u8], at: usize, k: usize) -> Result<Piece, Refusal>
     requires { (at ≤ length font.now) × (1 ≤ k) × (k ≤ 4) }
     ensures { result ≡ piece_of (length font.now) (special_at k (value_of (length_kind k) (number k (drop at font.now))) (drop at font.now)) }
 {
     let room = font.len() - at;
     if room < k {
-        return Piece::Refused(Refusal::FILE_ENDS);
+        return Err(Refusal::FileEnds);
     }
     let n = fields::number_at(font, at, k);
     if fields::NEGATIVE <= n {
-        return Piece::Refused(Refusal::BAD_LENGTH);
+        return Err(Refusal::BadLength);
     }
     let bytes = n as usize;
     if room - k < bytes {
-        return Piece::Refused(Refusal::FILE_ENDS);
+        return Err(Refusal::FileEnds);
     }
-    Piece::Command(at + k + bytes)
+    Ok(Piece::Command(at + k + bytes))
 }
 
 // 244: four bytes, which stand at `at`.
-fn numeric(font: &[u8], at: usize) -> Piece
+fn numeric(font: &[u8], at: usize) -> Result<Piece, Refusal>
     requires { at ≤ length font.now }
     ensures { result ≡ piece_of (length font.now) (numeric_at (drop at font.now)) }
 {
     if font.len() - at < 4 {
-        return Piece::Refused(Refusal::FILE_ENDS);
+        return Err(Refusal::FileEnds);
     }
-    Piece::Command(at + 4)
+    Ok(Piece::Command(at + 4))
 }
 
 // The piece whose first byte is b, with what follows it at `at`.
-fn behind(font: &[u8], at: usize, b: usize) -> Piece
+fn behind(font: &[u8], at: usize, b: usize) -> Result<Piece, Refusal>
     requires { at ≤ length font.now }
     ensures { result ≡ piece_of (length font.now) (step (b ∷ drop at font.now)) }
 {
-    if b < 240 {
-        return packet::packet_at(font, at, b);
+    match b {
+        0..=239 => packet::packet_at(font, at, b),
+        240..=243 => special(font, at, b - 239),
+        244 => numeric(font, at),
+        245 => Ok(Piece::Last),
+        246 => Ok(Piece::Command(at)),
+        _ => Err(Refusal::NoPiece),
     }
-    if b < 244 {
-        return special(font, at, b - 239);
-    }
-    if b == 244 {
-        return numeric(font, at);
-    }
-    if b == 245 {
-        return Piece::Last;
-    }
-    if b == 246 {
-        return Piece::Command(at);
-    }
-    Piece::Refused(Refusal::NO_PIECE)
 }
 
 // The piece that begins at `at`.
-pub fn piece_at(font: &[u8], at: usize) -> Piece
+pub fn piece_at(font: &[u8], at: usize) -> Result<Piece, Refusal>
     ensures { result ≡ piece_of (length font.now) (step (drop at font.now)) }
 {
     if font.len() <= at {
-        return Piece::Refused(Refusal::FILE_ENDS);
+        return Err(Refusal::FileEnds);
     }
-    behind(font, at + 1, byte::wide(font[at]))
+    behind(font, at + 1, usize::from(font[at]))
 }

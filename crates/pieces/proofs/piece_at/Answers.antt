@@ -8,4 +8,4 @@ returns-then-font-at c = let a = c.args in piece_ends a.font.now a.at (omega ari
 pub returns : goal.returns
 returns c =
     let a = c.args in
-    piece_begins a.font.now a.at c.wide.result _ (omega arith) (omega arith) c.behind.ensures
+    piece_begins a.font.now a.at _ _ (omega arith) (omega arith) c.behind.ensures
