@@ -1,13 +1,13 @@
 -- A number of at most four bytes rebuilt from them, and its value in two's complement. Assumes nothing.
-use Prim.Native.Nat.{ℕ, zero, suc, ◌+◌, ◌-◌, ◌*◌, ◌^◌, ◌≤◌, ◌<◌}
+use Prim.Native.Nat.{ℕ, zero, suc, ◌+◌, ◌-◌, ◌*◌, ◌^◌, ◌%◌, ◌≤◌, ◌<◌}
 use mathlib.Core.Path.{◌≡◌, refl, sym, ap, ◌∙◌, subst}
-use mathlib.Core.List.{List}
+use mathlib.Core.List.{List, [], ◌∷◌}
 use native.Mathlib.Nat.{pow-suc, pow-le-pow_right}
 use native.Mathlib.Omega.{arith}
 use lib.Dec.{lit<}
 use lib.IntN.{ℤ, pos, negsuc, neg_ℤ, ◌-ℤ◌, +ℤ_idl}
-use lib.ListN.{length, drop, get_or}
-use lib.Seq.{drop-cons}
+use lib.ListN.{length, take, drop, get_or, length-drop}
+use lib.Seq.{length-take-le}
 use mir.Syntax.{w64}
 use mir.Val.{SFits, to_z, of_z}
 use mir.Facts.{to_z-of_z, to_z_pos}
@@ -24,55 +24,66 @@ values_at n k e = ap (λ (x : ℕ). 256 ^ x) e
 pub values_most : (i j : ℕ) → i ≤ j → 256 ^ i ≤ 256 ^ j
 values_most i j h = pow-le-pow_right {n = 256} (omega arith) {i = i} {j = j} h
 
+-- Eight bits a byte.
+pub values_shifted : (k : ℕ) → k ≤ 4 → 1 * 2 ^ (8 * k) % 18446744073709551616 ≡ 256 ^ k
+values_shifted zero h = refl
+values_shifted (suc zero) h = refl
+values_shifted (suc (suc zero)) h = refl
+values_shifted (suc (suc (suc zero))) h = refl
+values_shifted (suc (suc (suc (suc zero)))) h = refl
+values_shifted (suc (suc (suc (suc (suc k))))) h = absurd (omega arith)
+
 -- A number of k bytes.
 
--- n is what the first i of the k bytes came to, and the others are still to be read.
-pub record Rebuilt (s : List ℕ) (at k n i : ℕ) : Type 0 where
-  pub upto : i ≤ k
+-- n is what the first i of some bytes are.
+pub record Rebuilt (xs : List ℕ) (i n : ℕ) : Type 0 where
+  pub is : n ≡ number i xs
   pub small : n < 256 ^ i
-  pub room : n < 256 ^ 4
-  pub rest : number k (drop at s) ≡ n * 256 ^ (k - i) + number (k - i) (drop (at + i) s)
 
 -- Before the first byte.
-pub rebuilt_start : (s : List ℕ) (at k : ℕ) → Rebuilt s at k 0 0
-rebuilt_start s at k =
-    let e : k - 0 ≡ k = omega arith in
-    let f : at + 0 ≡ at = omega arith in
-    record { upto = omega arith; small = omega arith; room = omega arith; rest = rw (e, f) (omega arith) }
-
--- A number by its first byte.
-number_cons : (s : List ℕ) (j p : ℕ) → p < length s → number (suc j) (drop p s) ≡ get_or s p 0 * 256 ^ j + number j (drop (suc p) s)
+pub rebuilt_start : (xs : List ℕ) → Rebuilt xs 0 0
 unfolding number
-number_cons s j p h = rw (drop-cons s p 0 h) refl
+rebuilt_start xs = record { is = refl; small = omega arith }
+
+-- A number by its last byte.
+number_last : (i : ℕ) (xs : List ℕ) → i < length xs → number (suc i) xs ≡ number i xs * 256 + get_or xs i 0
+unfolding number
+number_last i [] h = absurd (omega arith)
+number_last zero (b ∷ xs) h = omega arith
+number_last (suc i) (b ∷ xs) h =
+    let z : b * 256 ^ suc i ≡ b * 256 ^ i * 256 = ap (λ (q : ℕ). b * q) (pow-suc 256 i) ∙ (omega arith) in
+    omega (arith, number_last i xs (omega arith))
 
 -- One byte more, of at most four.
-pub rebuilt_step : (s : List ℕ) (at k n i m : ℕ) → Rebuilt s at k n i → i < k → k ≤ 4 → at + k ≤ length s → get_or s (at + i) 0 < 256
-    → m ≡ n * 256 + get_or s (at + i) 0 → Rebuilt s at k m (i + 1)
-rebuilt_step s at k n i m x h f l g e =
-    let j = k - (i + 1) in
-    let b = get_or s (at + i) 0 in
-    let u : k - i ≡ suc j = omega arith in
-    let v : at + (i + 1) ≡ suc (at + i) = omega arith in
+pub rebuilt_step : (xs : List ℕ) (i n m : ℕ) → Rebuilt xs i n → i < length xs → get_or xs i 0 < 256 → m ≡ n * 256 + get_or xs i 0 → Rebuilt xs (i + 1) m
+rebuilt_step xs i n m x h g e =
     let w : i + 1 ≡ suc i = omega arith in
-    let r = x.rest ∙ ap (λ (y : ℕ). n * 256 ^ y + number y (drop (at + i) s)) u in
-    let y = number_cons s j (at + i) (omega arith) in
-    let z : n * 256 ^ suc j ≡ 256 * (n * 256 ^ j) = ap (λ (q : ℕ). n * q) (pow-suc 256 j) ∙ (omega arith) in
-    let t : m * 256 ^ j ≡ 256 * (n * 256 ^ j) + b * 256 ^ j = ap (λ (q : ℕ). q * 256 ^ j) e ∙ (omega arith) in
-    record {
-      upto = omega arith;
-      small = rw w (omega arith);
-      room = omega (arith, values_most i 3 (omega arith));
-      rest = rw v (omega (arith, r, y, z, t));
-    }
+    rw w (record { is = omega (arith, number_last i xs h, x.is); small = omega (arith, x.small, pow-suc 256 i) })
+
+-- n is below 2^32 where a byte is still to come.
+pub rebuilt_room : (xs : List ℕ) (i n : ℕ) → Rebuilt xs i n → i ≤ 4 → n < 4294967296
+rebuilt_room xs i n x h = omega (arith, values_most i 4 h)
+
+-- A number is that of its bytes alone.
+number_take : (k : ℕ) (xs : List ℕ) → number k (take k xs) ≡ number k xs
+unfolding number
+number_take zero xs = refl
+number_take (suc k) [] = refl
+number_take (suc k) (b ∷ xs) = ap (λ (y : ℕ). b * 256 ^ k + y) (number_take k xs)
+
+-- How many bytes stand from at to at + k.
+pub taken : (s : List ℕ) (at k : ℕ) → at + k ≤ length s → length (take (at + k - at) (drop at s)) ≡ k
+taken s at k h =
+    let e : at + k - at ≡ k = omega arith in
+    rw e (length-take-le k (drop at s) (rw length-drop (omega arith)))
 
 -- After the last byte.
-pub rebuilt_end : (s : List ℕ) (at k n i : ℕ) → Rebuilt s at k n i → k ≤ i → NumberAt s at k n
-unfolding number
-rebuilt_end s at k n i x h =
-    let e : i ≡ k = omega arith in
-    let u : k - i ≡ 0 = omega arith in
-    let r = x.rest ∙ ap (λ (y : ℕ). n * 256 ^ y + number y (drop (at + i) s)) u in
-    record { is = omega arith; small = subst (λ (y : ℕ). n < 256 ^ y) e x.small }
+pub rebuilt_end : (s : List ℕ) (at k i n : ℕ) → Rebuilt (take (at + k - at) (drop at s)) i n → i ≡ k → NumberAt s at k n
+rebuilt_end s at k i n x e =
+    let d : at + k - at ≡ k = omega arith in
+    let y = subst (λ (u : ℕ). Rebuilt (take (at + k - at) (drop at s)) u n) e x in
+    let z = subst (λ (u : ℕ). Rebuilt (take u (drop at s)) k n) d y in
+    record { is = z.is ∙ number_take k (drop at s); small = z.small }
 
 -- Two's complement.
 

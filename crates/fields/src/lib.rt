@@ -9,25 +9,12 @@ ghost use Rattle.fields.specs.Field.{NumberAt};
 // From here on a number of four bytes stands for a negative one.
 pub const NEGATIVE: u64 = 2147483648;
 
-// A byte as a number.
-fn wide(x: u8) -> u64
-    ensures { (result ≡ x) × (result < 256) }
-{
-    x as u64
-}
-
 // How many values k bytes have.
 pub fn values_of(k: usize) -> u64
     requires { k ≤ 4 }
     ensures { result ≡ 256 ^ k }
 {
-    match k {
-        0 => 1,
-        1 => 256,
-        2 => 65536,
-        3 => 16777216,
-        _ => 4294967296,
-    }
+    1 << (8 * k)
 }
 
 // The k bytes from at on, the first most significant.
@@ -36,10 +23,8 @@ pub fn number_at(s: &[u8], at: usize, k: usize) -> u64
     ensures { NumberAt s.now at k result }
 {
     let mut n: u64 = 0;
-    let mut i: usize = 0;
-    while i < k {
-        n = n * 256 + wide(s[at + i]);
-        i += 1;
+    for &b in &s[at..at + k] {
+        n = n * 256 + u64::from(b);
     }
     n
 }
