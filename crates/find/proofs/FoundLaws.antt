@@ -6,6 +6,7 @@ use mathlib.Core.Bool.{true, false}
 use mathlib.Core.List.{List, [], ◌∷◌}
 use lib.Dec.{eqb}
 use lib.ListN.{length}
+use Rattle.std.specs.declared.option.Option.TheVariants.{None, Some}
 use Rattle.format.specs.Refusals.{no_such_code, ok, fault}
 use Rattle.format.specs.Numbers.{Bytes}
 use Rattle.format.specs.Pieces as F
@@ -18,9 +19,7 @@ use Rattle.packet.specs.Outlines.{outline_of}
 use Rattle.packet.specs.Standing.{StandsAt, Drawable}
 use Rattle.packet.specs.declared.Outline.{Outline}
 use Rattle.packet.proofs.StandingLaws.{stands_is, stands_raster}
-use Rattle.find.specs.Places.{found_among, found_in, IsFound}
-use Rattle.find.specs.declared.Found.{Found}
-use Rattle.find.specs.declared.Found.TheVariants.{At, Absent}
+use Rattle.find.specs.Places.{Found, found_among, found_in, IsFound}
 use Rattle.find.proofs.RestLaws.{Rest, rest_start, Next, rest_next}
 use Rattle.find.proofs.GoingLaws.{found_first}
 
@@ -31,8 +30,8 @@ pub record Stood (s : List ℕ) (code : ℕ) (all : List F.Packet) (at : ℕ) (x
 
 -- What each answer says of a font with these packets.
 abbrev pub Meant : List ℕ → ℕ → List F.Packet → Found → Type 0
-Meant s code all (At at x) = Stood s code all at x
-Meant s code all Absent = find code all ≡ fault no_such_code
+Meant s code all (Some r) = Stood s code all r.0 r.1
+Meant s code all None = find code all ≡ fault no_such_code
 
 module _ (s : List ℕ) (b : Bytes s) (code : ℕ) where
   -- A packet of the code.
@@ -49,8 +48,8 @@ module _ (s : List ℕ) (b : Bytes s) (code : ℕ) where
   -- A packet of another code in front.
   means_more : (p : F.Packet) (ps : List F.Packet) (r : Found) → eqb code p.code ≡ false → Meant s code ps r → Meant s code (p ∷ ps) r
   unfolding find
-  means_more p ps (At at x) e m = record { drawable = m.drawable; first = rw e m.first }
-  means_more p ps Absent e m = rw e m
+  means_more p ps (Some r) e m = record { drawable = m.drawable; first = rw e m.first }
+  means_more p ps None e m = rw e m
 
   -- A piece in front.
   piece_means : (at : ℕ) (p : F.Piece) (ps : List F.Piece) (pad : ℕ) (t : Next s at p ps pad) (r : Found) → AllFilled (packets (p ∷ ps))

@@ -4,6 +4,10 @@ use mathlib.Core.Path.{◌≡◌, refl, sym, ap, ◌∙◌, subst}
 use mathlib.Core.List.{List, [], ◌∷◌}
 use lib.ListN.{length, drop, get_or}
 use borrow.Author.Tests.{eq-eqb, ne_eqb}
+use Rattle.std.specs.declared.option.Option.TheVariants.{None, Some}
+use Rattle.std.specs.declared.result.Result.{Result}
+use Rattle.std.specs.declared.result.Result.TheVariants.{Ok, Err}
+use Rattle.refusals.specs.declared.Refusal.{Refusal}
 use Rattle.format.specs.Refusals.{ok}
 use Rattle.format.specs.Pieces as F
 use Rattle.format.specs.Pieces.{preamble_bytes, bytes_of}
@@ -12,9 +16,8 @@ use Rattle.format.specs.Verdict.{piece, step}
 use Rattle.format.proofs.CutLaws.{one_cut}
 use Rattle.packet.specs.Outlines.{piece_of}
 use Rattle.packet.specs.declared.Piece.{Piece}
-use Rattle.packet.specs.declared.Piece.TheVariants.{Packet, Command, Last, Refused}
+use Rattle.packet.specs.declared.Piece.TheVariants.{Packet, Command, Last}
 use Rattle.find.specs.Places.{Accepted, found_among, found_in, IsFound}
-use Rattle.find.specs.declared.Found.TheVariants.{At, Absent}
 use Rattle.find.proofs.RestLaws.{Rest, rest_start, preamble_third, Next, rest_next, rest_last}
 
 -- At a place of the font s, what is found in the pieces that are left is what is found in the font.
@@ -37,11 +40,11 @@ going_start s code k at (x, c) e f =
     })
 
 -- What each piece gives.
-abbrev pub Goes : List ℕ → ℕ → ℕ → Piece → Type 0
-Goes s code at (Packet x) = (at < x.end) × (x.code ≡ code → IsFound s code (At at x)) × ((x.code ≡ code → ⊥) → Going s code x.end)
-Goes s code at (Command to) = (at < to) × Going s code to
-Goes s code at Last = IsFound s code Absent
-Goes s code at (Refused x) = ⊥
+abbrev pub Goes : List ℕ → ℕ → ℕ → Result Piece Refusal → Type 0
+Goes s code at (Ok (Packet x)) = (at < x.end) × (x.code ≡ code → IsFound s code (Some (at, x))) × ((x.code ≡ code → ⊥) → Going s code x.end)
+Goes s code at (Ok (Command to)) = (at < to) × Going s code to
+Goes s code at (Ok Last) = IsFound s code None
+Goes s code at (Err x) = ⊥
 
 -- What is found from a piece on, by its packets.
 pub found_first : (code at to : ℕ) (p : F.Piece) (ps : List F.Piece) → at + length (bytes_of p) ≡ to
@@ -78,5 +81,5 @@ module _ (s : List ℕ) (code at : ℕ) where
       rw n.here (piece_goes p ps pad n g)
 
   -- Each piece gives what it must.
-  pub goes : (q t : Piece) → Going s code at → q ≡ piece_of (length s) (step (drop at s)) → q ≡ t → Goes s code at t
-  goes q t g e z = subst (Goes s code at) (sym e ∙ z) (left_goes g.left g.pad g.rest g.same)
+  pub goes : (t : Result Piece Refusal) → Going s code at → t ≡ piece_of (length s) (step (drop at s)) → Goes s code at t
+  goes t g e = subst (Goes s code at) (sym e) (left_goes g.left g.pad g.rest g.same)

@@ -5,38 +5,23 @@ ghost use Rattle.find.specs.Places.{Accepted, IsFound};
 
 use packet::{Outline, Piece};
 
-// The place of a packet's flag and its outline; or that no packet has the code.
-#[derive(Clone, Copy)]
-pub enum Found {
-    At(usize, Outline),
-    Absent,
-}
-
-// The packet of a code, wherever it stands.
-pub fn packet_of(font: &[u8], code: usize) -> Found
+// The packet of a code, wherever it stands: the place of its flag, and its outline.
+pub fn packet_of(font: &[u8], code: usize) -> Option<(usize, Outline)>
     requires { Accepted font.now }
     ensures { IsFound font.now code result }
 {
-    let mut at = byte::wide(font[2]) + pieces::PREAMBLE;
+    let mut at = usize::from(font[2]) + pieces::PREAMBLE;
     loop {
-        let piece = pieces::piece_at(font, at);
-        match piece {
-            Piece::Packet(x) => {
-                let end = x.end;
+        match pieces::piece_at(font, at) {
+            Ok(Piece::Packet(x)) => {
                 if x.code == code {
-                    return Found::At(at, x);
+                    return Some((at, x));
                 }
-                at = end;
+                at = x.end;
             }
-            Piece::Command(next) => {
-                at = next;
-            }
-            Piece::Last => {
-                return Found::Absent;
-            }
-            Piece::Refused(_) => {
-                return Found::Absent;
-            }
+            Ok(Piece::Command(next)) => at = next,
+            Ok(Piece::Last) => return None,
+            Err(_) => return None,
         }
     }
 }
