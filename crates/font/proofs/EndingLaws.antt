@@ -1,7 +1,7 @@
 -- Laws of the ending, one for each answer. Assumes nothing.
 use Prim.Native.Nat.{ℕ, ◌+◌, ◌%◌, ◌≤◌, ◌<◌}
 use mathlib.Core.Path.{◌≡◌, refl, sym, ap, ◌∙◌}
-use mathlib.Core.Bool.{true, false}
+use mathlib.Core.Bool.{Bool, true, false, ◌&&◌}
 use mathlib.Core.Logic.{inr}
 use mathlib.Core.List.{List, [], ◌∷◌}
 use native.Mathlib.Numerals.{add-one}
@@ -15,24 +15,16 @@ use Rattle.format.specs.Refusals.{bad_ending, no_packet, answers}
 use Rattle.format.specs.Cut.{packets}
 use Rattle.format.specs.Verdict.{is_nil, ending}
 use Rattle.format.proofs.Tests.{false_and}
-use Rattle.std.specs.Prelude.{Ok, Err}
+use Rattle.std.specs.Prelude.{Ok, Err, nat_eq}
+use Rattle.std.specs.List.{list_all}
 use Rattle.refusals.specs.Answers.{refused_at, to_result}
 use Rattle.font.specs.Turns.{IsEnding}
 
--- Only 246.
-
-module _ (s : List ℕ) where
-  pub all_none : (i : ℕ) → length s ≤ i → true ≡ all 246 (drop i s)
-  unfolding all
-  all_none i h = rw (drop_of_length-le s {i = i} h) refl
-
-  pub all_not : (i : ℕ) → i < length s → (get_or s i 0 ≡ 246 → ⊥) → false ≡ all 246 (drop i s)
-  unfolding all
-  all_not i h n = rw (drop-cons s i 0 h, ne_eqb (get_or s i 0) 246 n) refl
-
-  pub all_more : (i : ℕ) → i < length s → get_or s i 0 ≡ 246 → all 246 (drop i s) ≡ all 246 (drop (i + 1) s)
-  unfolding all
-  all_more i h e = rw (drop-cons s i 0 h, eq-eqb (get_or s i 0) 246 e, add-one) refl
+-- Only 246: each byte is, as a chain over the bytes says it.
+pub list_all_is : (c : ℕ) (xs : List ℕ) → list_all (λ (x : ℕ). nat_eq x c) xs ≡ all c xs
+unfolding all
+list_all_is c [] = refl
+list_all_is c (x ∷ xs) = ap (λ (t : Bool). nat_eq x c && t) (list_all_is c xs)
 
 -- The answers.
 
