@@ -12,7 +12,7 @@ use packet::Outline;
 
 // What is said of a character: code, width and height, TFM width, escapements in pixels times 65,536, and the offsets from the upper
 // left pixel to the reference pixel.
-#[derive(Clone, Copy)]
+#[derive(Clone, Copy, Debug, PartialEq, Eq)]
 pub struct Measures {
     pub code: i64,
     pub w: i64,
@@ -77,12 +77,10 @@ pub fn measures_at(font: &[u8], at: usize, x: Outline) -> Measures
     requires { StandsAt font.now at x }
     ensures { IsSaid font.now at result }
 {
-    let low = byte::wide(font[at]) % 8;
-    if low < 4 {
-        return narrow(font, at + 1, 1, x);
+    let fields = at + 1;
+    match usize::from(font[at]) % 8 {
+        0..=3 => narrow(font, fields, 1, x),
+        4..=6 => narrow(font, fields, 2, x),
+        _ => long(font, fields, x),
     }
-    if low < 7 {
-        return narrow(font, at + 1, 2, x);
-    }
-    long(font, at + 1, x)
 }

@@ -3,19 +3,25 @@ use Prim.Native.Nat.{ℕ, ◌+◌, ◌-◌, ◌≤◌, ◌<◌}
 use mathlib.Core.Path.{◌≡◌, refl, sym, ap, ◌∙◌, subst}
 use mathlib.Core.List.{List, ◌∷◌, ◌++◌, append_assoc}
 use native.Mathlib.Omega.{arith}
-use lib.ListN.{length, take, drop, length-append, take-append-drop}
+use mir.Syntax.{w8}
+use mir.Val.{Fits}
+use lib.ListN.{length, take, drop, get_or, length-append, take-append-drop}
 use lib.Seq.{drop-append_seam, take-append_seam}
 use borrow.Author.Tests.{ltb-true}
 use Rattle.format.specs.Limits.{is_code}
 use Rattle.format.specs.Numbers.{Bytes, field_bytes}
 use Rattle.format.specs.Pieces as F
 use Rattle.format.specs.Pieces.{kinds, fields, flag, bytes_of}
-use Rattle.format.proofs.FieldLaws.{bytes_drop}
+use Rattle.format.proofs.FieldLaws.{bytes_of_lem, bytes_drop}
 use Rattle.format.proofs.PieceLaws as L
 use Rattle.format.proofs.PieceLaws.{Is, step_is}
 use Rattle.packet.specs.Outlines.{outline_of}
 use Rattle.packet.specs.Standing.{StandsAt, InFont, raster_of}
 use Rattle.packet.specs.declared.Outline.{Outline}
+
+-- What the type of a slice says of it: its numbers are bytes.
+pub bytes_fit : (s : List ℕ) → ((i : ℕ) → Fits w8 (get_or s i 0)) → Bytes s
+bytes_fit s h = bytes_of_lem s (λ i. omega (arith, h i))
 
 -- A packet that 01 allows has a code below 256.
 pub code_small : (p : F.Packet) → F.PacketOk p → p.code < 256
