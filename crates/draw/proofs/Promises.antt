@@ -26,28 +26,26 @@ use Rattle.format.proofs.FaultConverse.{means_refusal, row_or_cut}
 use Rattle.measures.specs.Said as M
 use Rattle.measures.proofs.SaidLaws.{one_measures}
 use Rattle.glyph.specs.Answer.{in_numbers}
-use Rattle.glyph.specs.declared.Drawn.{Drawn}
-use Rattle.glyph.specs.declared.Drawn.TheVariants.{Measured, Refused}
+use Rattle.std.specs.declared.result.Result.{Result}
+use Rattle.refusals.specs.declared.Refused.{Refused}
+use Rattle.refusals.proofs.AnswerLaws.{one_numbers}
+use Rattle.measures.specs.declared.Measures.{Measures}
 
 -- One answer.
 
 -- An answer is told by its numbers.
-pub one_number : (r t : Drawn) → in_numbers r ≡ in_numbers t → r ≡ t
-unfolding in_numbers
-one_number (Measured m) (Measured n) e = let z : M.said m ≡ M.said n = cc in ap Measured (one_measures m n z)
-one_number (Measured m) (Refused x p) e = absurd (let z : ◌≡◌ {A = ℕ} 0 1 = cc in omega arith)
-one_number (Refused x p) (Measured n) e = absurd (let z : ◌≡◌ {A = ℕ} 0 1 = cc in omega arith)
-one_number (Refused x p) (Refused y q) e = let z : x.0 ≡ y.0 = cc in let i : p ≡ q = cc in rw (z, i) refl
+pub one_number : (r t : Result Measures Refused) → in_numbers r ≡ in_numbers t → r ≡ t
+one_number r t e = one_numbers M.said one_measures r t e
 
 -- Any two answers that the promise allows are equal, and so are the buffers that it allows.
-pub one_answer : (s : List ℕ) (code : ℕ) (buffer : List ℕ) (r t : Drawn) (after after' : List ℕ)
+pub one_answer : (s : List ℕ) (code : ℕ) (buffer : List ℕ) (r t : Result Measures Refused) (after after' : List ℕ)
     → in_numbers r ≡ told (draw_answer s code buffer) → after ≡ draw_buffer s code buffer → in_numbers t ≡ told (draw_answer s code buffer) → after' ≡ draw_buffer s code buffer → (r ≡ t) × (after ≡ after')
 one_answer s code buffer r t after after' e o f q = (one_number r t (e ∙ sym f), o ∙ sym q)
 
 -- What it says.
 
 -- An answer r that the promise allows of a font s, a code and a lent buffer, and what the buffer holds afterwards.
-module _ (s : List ℕ) (code : ℕ) (buffer : List ℕ) (r : Drawn) (after : List ℕ) (promised : in_numbers r ≡ told (draw_answer s code buffer)) (left : after ≡ draw_buffer s code buffer) where
+module _ (s : List ℕ) (code : ℕ) (buffer : List ℕ) (r : Result Measures Refused) (after : List ℕ) (promised : in_numbers r ≡ told (draw_answer s code buffer)) (left : after ≡ draw_buffer s code buffer) where
   answer_of : (a : Answer (F.Measures × List ℕ)) → draw s code (length buffer) ≡ a → in_numbers r ≡ told (answers (λ t. t.0) a)
   unfolding draw_answer
   answer_of a e = promised ∙ rw e refl
@@ -129,7 +127,7 @@ module _ (s : List ℕ) (code : ℕ) (buffer : List ℕ) (r : Drawn) (after : Li
 -- What changes nothing.
 
 -- Answers q and r that the promise allows of two fonts that draw alike are equal, and so are the buffers afterwards.
-alike : (s t : List ℕ) (code : ℕ) (buffer : List ℕ) (q r : Drawn) → draw s code (length buffer) ≡ draw t code (length buffer)
+alike : (s t : List ℕ) (code : ℕ) (buffer : List ℕ) (q r : Result Measures Refused) → draw s code (length buffer) ≡ draw t code (length buffer)
     → in_numbers q ≡ told (draw_answer s code buffer) → in_numbers r ≡ told (draw_answer t code buffer) → (q ≡ r) × (draw_buffer s code buffer ≡ draw_buffer t code buffer)
 unfolding draw_answer draw_buffer
 alike s t code buffer q r d e f = (
@@ -140,7 +138,7 @@ alike s t code buffer q r d e f = (
 -- A command more, anywhere among the pieces.
 pub command_nothing : (x : Parts) (ps qs : List Piece) (c : Piece) (pad : ℕ) (is : x.pieces ≡ ps ++ qs) (command : Command c) (allowed : PieceOk c)
     (s t : List ℕ) → Cut s x → t ≡ join (with_command x ps qs c pad is command allowed) → Bytes t → length t ≤ most → length t % 4 ≡ 0
-    → (code : ℕ) (buffer : List ℕ) (q r : Drawn) → in_numbers q ≡ told (draw_answer t code buffer) → in_numbers r ≡ told (draw_answer s code buffer)
+    → (code : ℕ) (buffer : List ℕ) (q r : Result Measures Refused) → in_numbers q ≡ told (draw_answer t code buffer) → in_numbers r ≡ told (draw_answer s code buffer)
     → (q ≡ r) × (draw_buffer t code buffer ≡ draw_buffer s code buffer)
 command_nothing x ps qs c pad is command allowed s t k e b l f code buffer q r i j =
     alike t s code buffer q r
@@ -150,6 +148,6 @@ command_nothing x ps qs c pad is command allowed s t k e b l f code buffer q r i
 
 -- The pieces in another order.
 pub order_nothing : (x : Parts) (qs : List Piece) → Reordered x.pieces qs → Cut (join x) x
-    → (code : ℕ) (buffer : List ℕ) (q r : Drawn) → in_numbers q ≡ told (draw_answer (join (with_pieces x qs)) code buffer) → in_numbers r ≡ told (draw_answer (join x) code buffer)
+    → (code : ℕ) (buffer : List ℕ) (q r : Result Measures Refused) → in_numbers q ≡ told (draw_answer (join (with_pieces x qs)) code buffer) → in_numbers r ≡ told (draw_answer (join x) code buffer)
     → (q ≡ r) × (draw_buffer (join (with_pieces x qs)) code buffer ≡ draw_buffer (join x) code buffer)
 order_nothing x qs o k code buffer q r i j = alike (join (with_pieces x qs)) (join x) code buffer q r (reordered_drawings x qs o k code (length buffer)) i j

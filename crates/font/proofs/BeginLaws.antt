@@ -14,39 +14,41 @@ use Rattle.format.specs.Cut.{chars}
 use Rattle.format.specs.Decoding.{read_fields}
 use Rattle.format.specs.Verdict.{preamble_of, preamble_at, begin, verdict, check}
 use Rattle.format.proofs.FaultTheorems.{check_means, place_given}
-use Rattle.refusals.specs.Names.{coded}
-use Rattle.font.specs.Answer.{to_checked, in_numbers}
+use Rattle.std.specs.Prelude.{Err}
+use Rattle.std.specs.declared.result.Result.{Result}
+use Rattle.refusals.specs.Answers.{refused_at, to_result}
+use Rattle.refusals.specs.declared.Refused.{Refused}
+use Rattle.refusals.proofs.AnswerLaws.{result_told}
+use Rattle.font.specs.Answer.{in_numbers}
 use Rattle.font.specs.Turns.{IsOnward}
-use Rattle.font.specs.declared.Checked.{Checked}
-use Rattle.font.specs.declared.Checked.TheVariants.{Refused}
 
 -- The preamble.
 
-pub begin_empty : (s : List ℕ) → length s ≡ 0 → Refused (coded no_preamble) 0 ≡ to_checked (answers chars (begin s))
-unfolding to_checked answers begin
+pub begin_empty : (s : List ℕ) → length s ≡ 0 → Err (refused_at no_preamble 0) ≡ to_result (answers chars (begin s))
+unfolding to_result answers begin
 begin_empty [] e = refl
 begin_empty (a ∷ s) e = absurd (omega arith)
 
-pub begin_other : (s : List ℕ) → (length s ≡ 0 → ⊥) → (get_or s 0 0 ≡ 247 → ⊥) → Refused (coded no_preamble) 0 ≡ to_checked (answers chars (begin s))
-unfolding to_checked answers begin
+pub begin_other : (s : List ℕ) → (length s ≡ 0 → ⊥) → (get_or s 0 0 ≡ 247 → ⊥) → Err (refused_at no_preamble 0) ≡ to_result (answers chars (begin s))
+unfolding to_result answers begin
 begin_other [] n e = absurd (n refl)
 begin_other (a ∷ []) n e = rw (ne_eqb a 247 e) refl
 begin_other (a ∷ b ∷ s) n e = rw (ne_eqb a 247 e) refl
 
-pub begin_one : (s : List ℕ) → length s ≡ 1 → get_or s 0 0 ≡ 247 → Refused (coded file_ends) 0 ≡ to_checked (answers chars (begin s))
-unfolding to_checked answers begin
+pub begin_one : (s : List ℕ) → length s ≡ 1 → get_or s 0 0 ≡ 247 → Err (refused_at file_ends 0) ≡ to_result (answers chars (begin s))
+unfolding to_result answers begin
 begin_one [] l e = absurd (omega arith)
 begin_one (a ∷ []) l e = rw (eq-eqb a 247 e) refl
 begin_one (a ∷ b ∷ s) l e = absurd (omega arith)
 
-pub begin_id : (s : List ℕ) → 1 < length s → get_or s 0 0 ≡ 247 → (get_or s 1 0 ≡ 89 → ⊥) → Refused (coded wrong_id) 0 ≡ to_checked (answers chars (begin s))
-unfolding to_checked answers begin
+pub begin_id : (s : List ℕ) → 1 < length s → get_or s 0 0 ≡ 247 → (get_or s 1 0 ≡ 89 → ⊥) → Err (refused_at wrong_id 0) ≡ to_result (answers chars (begin s))
+unfolding to_result answers begin
 begin_id [] l e n = absurd (omega arith)
 begin_id (a ∷ []) l e n = absurd (omega arith)
 begin_id (a ∷ b ∷ s) l e n = rw (eq-eqb a 247 e, ne_eqb b 89 n) refl
 
-pub begin_two : (s : List ℕ) → length s ≡ 2 → get_or s 0 0 ≡ 247 → get_or s 1 0 ≡ 89 → Refused (coded file_ends) 0 ≡ to_checked (answers chars (begin s))
-unfolding to_checked answers begin preamble_at
+pub begin_two : (s : List ℕ) → length s ≡ 2 → get_or s 0 0 ≡ 247 → get_or s 1 0 ≡ 89 → Err (refused_at file_ends 0) ≡ to_result (answers chars (begin s))
+unfolding to_result answers begin preamble_at
 begin_two [] l e f = absurd (omega arith)
 begin_two (a ∷ []) l e f = absurd (omega arith)
 begin_two (a ∷ b ∷ []) l e f = rw (eq-eqb a 247 e, eq-eqb b 89 f) refl
@@ -54,21 +56,21 @@ begin_two (a ∷ b ∷ c ∷ s) l e f = absurd (omega arith)
 
 -- 247, 89 and a comment's length k.
 module _ (s : List ℕ) (k : ℕ) (e : get_or s 0 0 ≡ 247) (f : get_or s 1 0 ≡ 89) (h : k ≡ get_or s 2 0) where
-  pub begin_short : 2 < length s → length s < k + 19 → Refused (coded file_ends) 0 ≡ to_checked (answers chars (begin s))
-  unfolding to_checked answers begin preamble_at
+  pub begin_short : 2 < length s → length s < k + 19 → Err (refused_at file_ends 0) ≡ to_result (answers chars (begin s))
+  unfolding to_result answers begin preamble_at
   begin_short l m = go s e f h l m
     where
-      go : (s : List ℕ) → get_or s 0 0 ≡ 247 → get_or s 1 0 ≡ 89 → k ≡ get_or s 2 0 → 2 < length s → length s < k + 19 → Refused (coded file_ends) 0 ≡ to_checked (answers chars (begin s))
+      go : (s : List ℕ) → get_or s 0 0 ≡ 247 → get_or s 1 0 ≡ 89 → k ≡ get_or s 2 0 → 2 < length s → length s < k + 19 → Err (refused_at file_ends 0) ≡ to_result (answers chars (begin s))
       go [] e f h l m = absurd (omega arith)
       go (a ∷ []) e f h l m = absurd (omega arith)
       go (a ∷ b ∷ []) e f h l m = absurd (omega arith)
       go (a ∷ b ∷ c ∷ t) e f h l m = rw (eq-eqb a 247 e, eq-eqb b 89 f, ← h, lt-ltb (length t) (k + 16) (omega arith)) refl
 
-  pub begin_onward : (start : ℕ) (r : Checked) → start ≡ k + 19 → start ≤ length s → IsOnward s start r → r ≡ to_checked (answers chars (begin s))
+  pub begin_onward : (start : ℕ) (r : Result ℕ Refused) → start ≡ k + 19 → start ≤ length s → IsOnward s start r → r ≡ to_result (answers chars (begin s))
   unfolding begin preamble_at
   begin_onward start r j l q = go s e f h l q
     where
-      go : (s : List ℕ) → get_or s 0 0 ≡ 247 → get_or s 1 0 ≡ 89 → k ≡ get_or s 2 0 → start ≤ length s → IsOnward s start r → r ≡ to_checked (answers chars (begin s))
+      go : (s : List ℕ) → get_or s 0 0 ≡ 247 → get_or s 1 0 ≡ 89 → k ≡ get_or s 2 0 → start ≤ length s → IsOnward s start r → r ≡ to_result (answers chars (begin s))
       go [] e f h l q = absurd (omega arith)
       go (a ∷ []) e f h l q = absurd (omega arith)
       go (a ∷ b ∷ []) e f h l q = absurd (omega arith)
@@ -79,22 +81,15 @@ module _ (s : List ℕ) (k : ℕ) (e : get_or s 0 0 ≡ 247) (f : get_or s 1 0 �
 
 -- The whole font.
 
-pub check_long : (s : List ℕ) → 65536 < length s → Refused (coded too_long) 0 ≡ to_checked (check s)
-unfolding to_checked answers check verdict
+pub check_long : (s : List ℕ) → 65536 < length s → Err (refused_at too_long 0) ≡ to_result (check s)
+unfolding to_result answers check verdict
 check_long s l = rw (lt-ltb most (length s) l) refl
 
-pub check_begin : (s : List ℕ) (r : Checked) → length s ≤ 65536 → r ≡ to_checked (answers chars (begin s)) → r ≡ to_checked (check s)
+pub check_begin : (s : List ℕ) (r : Result ℕ Refused) → length s ≤ 65536 → r ≡ to_result (answers chars (begin s)) → r ≡ to_result (check s)
 unfolding check verdict
 check_begin s r l e = e ∙ rw (le-ltb most (length s) l) refl
 
 -- In 01's numbers.
 
-pub numbers_told : (s : List ℕ) (r : Checked) → Bytes s → r ≡ to_checked (check s) → in_numbers r ≡ told (check s)
-unfolding to_checked in_numbers told
-numbers_told s r b e = ap in_numbers e ∙ go (check s) refl
-  where
-    go : (x : Answer ℕ) → check s ≡ x → in_numbers (to_checked x) ≡ told x
-    go (gives n) q = refl
-    go (refused x place) q =
-        let p = place_given s x place (check_means s x place b q) in
-        rw p refl
+pub numbers_told : (s : List ℕ) (r : Result ℕ Refused) → Bytes s → r ≡ to_result (check s) → in_numbers r ≡ told (check s)
+numbers_told s r b e = ap in_numbers e ∙ result_told (check s) (λ x place q. place_given s x place (check_means s x place b q))

@@ -9,7 +9,10 @@ use lib.ListN.{length, drop, get_or, set, replicate, length-append, length-drop,
 use lib.Seq.{drop-drop, drop-append_seam, get_or-set_same, get_or-set_other}
 use borrow.Author.Tests.{eqb-true, eqb-false}
 use Rattle.format.specs.Lists.{elem}
-use Rattle.format.specs.Refusals.{Refusal, Answer, gives, refused, answers, Result, ok, fault}
+use Rattle.std.specs.Prelude.{Ok, Err}
+use Rattle.std.specs.declared.result.Result.{Result}
+use Rattle.format.specs.Refusals as R
+use Rattle.format.specs.Refusals.{Answer, gives, refused, answers, ok, fault}
 use Rattle.format.specs.Numbers.{Bytes}
 use Rattle.format.specs.Pieces as F
 use Rattle.format.specs.Pieces.{Preamble, bytes_of}
@@ -21,14 +24,13 @@ use Rattle.format.proofs.FieldLaws.{bytes_drop}
 use Rattle.format.proofs.PieceLaws as P
 use Rattle.format.proofs.PieceLaws.{Is, step_is}
 use Rattle.format.proofs.ShorterLaws.{Less, less_rest, step_less, onward_step}
-use Rattle.refusals.specs.Names.{coded}
+use Rattle.refusals.specs.Answers.{refused_at, to_result}
+use Rattle.refusals.specs.declared.Refusal.{Refusal}
+use Rattle.refusals.specs.declared.Refused.{Refused}
 use Rattle.packet.proofs.StandingLaws.{code_small}
-use Rattle.font.specs.Answer.{to_checked}
 use Rattle.font.specs.Turns.{chars_after, Marks, judged_turn, turn_for, to_turn, IsTurn, IsEnding, IsOnward}
 use Rattle.font.specs.declared.Turn.{Turn}
-use Rattle.font.specs.declared.Turn.TheVariants.{Packet, Command, Last, Refused}
-use Rattle.font.specs.declared.Checked.{Checked}
-use Rattle.font.specs.declared.Checked.TheVariants as C
+use Rattle.font.specs.declared.Turn.TheVariants.{Packet, Command, Last}
 
 -- The codes seen.
 
@@ -62,7 +64,7 @@ pub record Going (s : List ℕ) (start at n : ℕ) (seen : List Bool) : Type 0 w
   pub marks : Marks seen before
   pub count : length before ≡ n
   pub few : n ≤ at
-  pub same : (a : Preamble) → to_checked (answers chars (onward a start [] (drop start s))) ≡ to_checked (answers (chars_after n) (onward a at before (drop at s)))
+  pub same : (a : Preamble) → to_result (answers chars (onward a start [] (drop start s))) ≡ to_result (answers (chars_after n) (onward a at before (drop at s)))
 
 none_more : (r : Answer Parts) → answers chars r ≡ answers (chars_after 0) r
 unfolding answers
@@ -78,7 +80,7 @@ going_start s start seen b l e =
       marks = subst (λ (x : List Bool). Marks x []) (sym e) marks_none;
       count = refl;
       few = omega arith;
-      same = λ a. ap to_checked (none_more (onward a start [] (drop start s)));
+      same = λ a. ap to_result (none_more (onward a start [] (drop start s)));
     }
 
 -- A piece in order.
@@ -146,22 +148,22 @@ going_on s start at n seen seen' g p r is e c m =
       count = omega (arith, length-append (codes (packets (p ∷ []))) g.before, length-codes (packets (p ∷ [])), g.count);
       few = omega (arith, g.few, b.packets_few);
       same = λ q.
-          g.same q ∙ ap (λ (x : Answer Parts). to_checked (answers (chars_after n) x)) (onward_step q at g.before (drop at s))
-          ∙ rw (e, c, b.place, b.rest) (ap to_checked (chars_more n p (onward q (length s - length r) (codes (packets (p ∷ [])) ++ g.before) r)));
+          g.same q ∙ ap (λ (x : Answer Parts). to_result (answers (chars_after n) x)) (onward_step q at g.before (drop at s))
+          ∙ rw (e, c, b.place, b.rest) (ap to_result (chars_more n p (onward q (length s - length r) (codes (packets (p ∷ [])) ++ g.before) r)));
     }
 
 -- What each turn gives.
 
-abbrev pub Goes : List ℕ → ℕ → ℕ → ℕ → List Bool → Turn → Type 0
-Goes s start at n seen (Packet code to) = (at < to) × (code < 256) × Going s start to (n + 1) (set seen code true)
-Goes s start at n seen (Command to) = (at < to) × Going s start to n seen
-Goes s start at n seen Last = (at < length s) × ((r : Checked) → IsEnding s at n r → IsOnward s start r)
-Goes s start at n seen (Refused x) = IsOnward s start (C.Refused x at)
+abbrev pub Goes : List ℕ → ℕ → ℕ → ℕ → List Bool → Result Turn Refusal → Type 0
+Goes s start at n seen (Ok (Packet code to)) = (at < to) × (code < 256) × Going s start to (n + 1) (set seen code true)
+Goes s start at n seen (Ok (Command to)) = (at < to) × Going s start to n seen
+Goes s start at n seen (Ok Last) = (at < length s) × ((r : Result ℕ Refused) → IsEnding s at n r → IsOnward s start r)
+Goes s start at n seen (Err x) = IsOnward s start (Err (record { refusal = x; place = at }))
 
 module _ (s : List ℕ) (start at n : ℕ) (seen : List Bool) (g : Going s start at n seen) where
   -- A fault of the piece, or of its raster.
-  stops : (x : Refusal) → ((a : Preamble) → onward a at g.before (drop at s) ≡ refused x at) → IsOnward s start (C.Refused (coded x) at)
-  unfolding to_checked answers
+  stops : (x : R.Refusal) → ((a : Preamble) → onward a at g.before (drop at s) ≡ refused x at) → IsOnward s start (Err (refused_at x at))
+  unfolding to_result answers
   stops x e a = sym (g.same a ∙ rw (e a) refl)
 
   -- Behind a piece that is found.
@@ -179,7 +181,7 @@ module _ (s : List ℕ) (start at n : ℕ) (seen : List Bool) (g : Going s start
       let k : n + length (packets (p ∷ [])) ≡ n = omega (arith, ap length z) in
       ((behind p r e).1.after, subst (λ (i : ℕ). Going s start (length s - length r) i seen) k (going_on s start at n seen seen g p r is e c m))
 
-  piece_goes : (p : F.Piece) (r : List ℕ) (c : Result (List Item)) → step (drop at s) ≡ ok (piece p r) → checked g.before (packets (p ∷ [])) ≡ c
+  piece_goes : (p : F.Piece) (r : List ℕ) (c : R.Result (List Item)) → step (drop at s) ≡ ok (piece p r) → checked g.before (packets (p ∷ [])) ≡ c
       → Goes s start at n seen (judged_turn (turn_for (length s - length r) (packets (p ∷ []))) c)
   unfolding judged_turn next or_else packets codes
   piece_goes p r (fault x) e c = stops x (λ a. onward_step a at g.before (drop at s) ∙ rw (e, c) refl)
@@ -191,7 +193,7 @@ module _ (s : List ℕ) (start at n : ℕ) (seen : List Bool) (g : Going s start
       let l = code_small p b.0.ok in
       (b.1.after, l, going_on s start at n seen (set seen p.code true) g (F.packet p) r is e c (marks_more seen g.before p.code l g.marks))
 
-  last_goes : (r : List ℕ) → step (drop at s) ≡ ok (last r) → Goes s start at n seen Last
+  last_goes : (r : List ℕ) → step (drop at s) ≡ ok (last r) → Goes s start at n seen (Ok Last)
   unfolding next
   last_goes r e =
       let k : drop at s ≡ 245 ∷ r = subst (Is (drop at s)) e (step_is (drop at s) (bytes_drop at s g.bytes)) in
@@ -200,15 +202,15 @@ module _ (s : List ℕ) (start at n : ℕ) (seen : List Bool) (g : Going s start
       let q : drop (at + 1) s ≡ r = sym (drop-drop 1 at s) ∙ ap (drop 1) k in (
         omega arith,
         λ x h a. h a g.before g.count
-            ∙ sym (g.same a ∙ ap (λ (y : Answer Parts). to_checked (answers (chars_after n) y)) (onward_step a at g.before (drop at s)) ∙ rw (e, q) refl),
+            ∙ sym (g.same a ∙ ap (λ (y : Answer Parts). to_result (answers (chars_after n) y)) (onward_step a at g.before (drop at s)) ∙ rw (e, q) refl),
       )
 
-  front_goes : (f : Result Front) → step (drop at s) ≡ f → Goes s start at n seen (to_turn (length s) g.before f)
+  front_goes : (f : R.Result Front) → step (drop at s) ≡ f → Goes s start at n seen (to_turn (length s) g.before f)
   unfolding to_turn next
   front_goes (ok (piece p r)) e = piece_goes p r (checked g.before (packets (p ∷ []))) e refl
   front_goes (ok (last r)) e = last_goes r e
   front_goes (fault x) e = stops x (λ a. onward_step a at g.before (drop at s) ∙ rw e refl)
 
   -- Each turn gives what it must.
-  pub goes : (t q : Turn) → IsTurn seen (length s) (step (drop at s)) t → t ≡ q → Goes s start at n seen q
+  pub goes : (t q : Result Turn Refusal) → IsTurn seen (length s) (step (drop at s)) t → t ≡ q → Goes s start at n seen q
   goes t q h e = subst (Goes s start at n seen) (sym (h g.before g.marks) ∙ e) (front_goes (step (drop at s)) refl)

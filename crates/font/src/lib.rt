@@ -2,104 +2,63 @@
 #![tactic(auto)]
 
 ghost use Rattle.std.specs.Prelude.{◌≤◌, ◌<◌, ◌≡◌, false, length, drop, replicate};
-ghost use Rattle.format.specs.Lists.{all};
 ghost use Rattle.format.specs.Refusals.{answers, told};
 ghost use Rattle.format.specs.Cut.{chars};
 ghost use Rattle.format.specs.Verdict.{step, begin, check};
+ghost use Rattle.refusals.specs.Answers.{to_result};
 ghost use Rattle.packet.specs.Standing.{InFont, raster_of};
-ghost use Rattle.font.specs.Answer.{to_checked, in_numbers};
-ghost use Rattle.font.specs.Turns.{as_turn, IsPacketTurn, IsTurn, IsEnding, IsOnward};
+ghost use Rattle.font.specs.Answer.{in_numbers};
+ghost use Rattle.font.specs.Turns.{IsPacketTurn, IsTurn, IsEnding, IsOnward};
 
-use judge::Judged;
 use packet::{Outline, Piece};
-use refusals::Refusal;
+use refusals::{Refusal, Refused};
 
-// The number of characters, or the first refusal with its place.
-#[derive(Clone, Copy)]
-pub enum Checked {
-    Chars(usize),
-    Refused(Refusal, usize),
-}
-
-// A piece judged: a packet's code and the place behind it; the place behind a command; the 245; or the fault.
+// A piece judged: a packet's code and the place behind it; the place behind a command; the 245.
 #[derive(Clone, Copy)]
 enum Turn {
     Packet(usize, usize),
     Command(usize),
     Last,
-    Refused(Refusal),
-}
-
-// A packet's code and the place behind it, or its raster's fault.
-fn as_turn(judged: Judged, code: usize, end: usize) -> Turn
-    ensures { result ≡ as_turn judged code end }
-{
-    match judged {
-        Judged::Whole => Turn::Packet(code, end),
-        Judged::Fault(x) => Turn::Refused(x),
-    }
 }
 
 // A packet behind others with the codes seen: 9, then the raster's faults.
-fn packet_turn(font: &[u8], x: Outline, seen: &[bool; 256]) -> Turn
+fn packet_turn(font: &[u8], x: Outline, seen: &[bool; 256]) -> Result<Turn, Refusal>
     requires { InFont font.now x }
     ensures { IsPacketTurn seen.now x (raster_of font.now x) result }
 {
-    let code = x.code;
-    let begin = x.raster;
-    let end = x.end;
-    if seen[code] {
-        return Turn::Refused(Refusal::CODE_TWICE);
+    if seen[x.code] {
+        return Err(Refusal::CodeTwice);
     }
-    as_turn(
-        judge::judge(&font[begin..end], x.f, x.black, x.w, x.h),
-        code,
-        end,
-    )
+    judge::judge(&font[x.raster..x.end], x.f, x.black, x.w, x.h)?;
+    Ok(Turn::Packet(x.code, x.end))
 }
 
 // The piece at `at`, behind packets with the codes seen.
-fn turn_at(font: &[u8], at: usize, seen: &[bool; 256]) -> Turn
+fn turn_at(font: &[u8], at: usize, seen: &[bool; 256]) -> Result<Turn, Refusal>
     ensures { IsTurn seen.now (length font.now) (step (drop at font.now)) result }
 {
-    let piece = pieces::piece_at(font, at);
-    match piece {
+    match pieces::piece_at(font, at)? {
         Piece::Packet(x) => packet_turn(font, x, seen),
-        Piece::Command(next) => Turn::Command(next),
-        Piece::Last => Turn::Last,
-        Piece::Refused(x) => Turn::Refused(x),
+        Piece::Command(next) => Ok(Turn::Command(next)),
+        Piece::Last => Ok(Turn::Last),
     }
-}
-
-// Only 246 stands from `at` on.
-fn no_ops_from(font: &[u8], at: usize) -> bool
-    ensures { result ≡ all 246 (drop at font.now) }
-{
-    let mut i = at;
-    while i < font.len() {
-        if font[i] != 246 {
-            return false;
-        }
-        i += 1;
-    }
-    true
 }
 
 // At the 245, behind so many characters: 15 before 14.
-fn ending(font: &[u8], at: usize, chars: usize) -> Checked
+fn ending(font: &[u8], at: usize, chars: usize) -> Result<usize, Refused>
     requires { (at < length font.now) × (length font.now ≤ 65536) }
     ensures { IsEnding font.now at chars result }
 {
     if chars == 0 {
-        return Checked::Refused(Refusal::NO_PACKET, at);
+        return Err(Refusal::NoPacket.at(at));
     }
     if font.len() % 4 != 0 {
-        return Checked::Refused(Refusal::BAD_ENDING, at);
+        return Err(Refusal::BadEnding.at(at));
     }
-    if !no_ops_from(font, at + 1) {
-        return Checked::Refused(Refusal::BAD_ENDING, at);
+    if !font[at + 1..].iter().all(|&b| b == 246) {
+        return Err(Refusal::BadEnding.at(at));
     }
-    Checked::Chars(chars)
+    Ok(chars)
 }
 
 // No code is seen.
@@ -110,7 +69,7 @@ fn none_seen() -> [bool; 256]
 }
 
 // The pieces from a place on, behind the preamble.
-fn onward(font: &[u8], start: usize) -> Checked
+fn onward(font: &[u8], start: usize) -> Result<usize, Refused>
     requires { (start ≤ length font.now) × (length font.now ≤ 65536) }
     ensures { IsOnward font.now start result }
 {
@@ -118,60 +77,53 @@ fn onward(font: &[u8], start: usize) -> Checked
     let mut chars: usize = 0;
     let mut at = start;
     loop {
-        let answer = turn_at(font, at, &seen);
-        match answer {
-            Turn::Packet(code, next) => {
+        match turn_at(font, at, &seen) {
+            Ok(Turn::Packet(code, next)) => {
                 seen[code] = true;
                 chars += 1;
                 at = next;
             }
-            Turn::Command(next) => {
-                at = next;
-            }
-            Turn::Last => {
-                return ending(font, at, chars);
-            }
-            Turn::Refused(x) => {
-                return Checked::Refused(x, at);
-            }
+            Ok(Turn::Command(next)) => at = next,
+            Ok(Turn::Last) => return ending(font, at, chars),
+            Err(x) => return Err(x.at(at)),
         }
     }
 }
 
 // 2, then 3, then the preamble whole.
-fn begin(font: &[u8]) -> Checked
+fn begin(font: &[u8]) -> Result<usize, Refused>
     requires { length font.now ≤ 65536 }
-    ensures { result ≡ to_checked (answers chars (begin font.now)) }
+    ensures { result ≡ to_result (answers chars (begin font.now)) }
 {
     let n = font.len();
     if n == 0 {
-        return Checked::Refused(Refusal::NO_PREAMBLE, 0);
+        return Err(Refusal::NoPreamble.at(0));
     }
     if font[0] != 247 {
-        return Checked::Refused(Refusal::NO_PREAMBLE, 0);
+        return Err(Refusal::NoPreamble.at(0));
     }
     if n == 1 {
-        return Checked::Refused(Refusal::FILE_ENDS, 0);
+        return Err(Refusal::FileEnds.at(0));
     }
     if font[1] != 89 {
-        return Checked::Refused(Refusal::WRONG_ID, 0);
+        return Err(Refusal::WrongId.at(0));
     }
     if n == 2 {
-        return Checked::Refused(Refusal::FILE_ENDS, 0);
+        return Err(Refusal::FileEnds.at(0));
     }
-    let start = byte::wide(font[2]) + pieces::PREAMBLE;
+    let start = usize::from(font[2]) + pieces::PREAMBLE;
     if n < start {
-        return Checked::Refused(Refusal::FILE_ENDS, 0);
+        return Err(Refusal::FileEnds.at(0));
     }
     onward(font, start)
 }
 
 // Any bytes: the number of characters, or the first refusal with its place.
-pub fn check(font: &[u8]) -> Checked
+pub fn check(font: &[u8]) -> Result<usize, Refused>
     ensures { in_numbers result ≡ told (check font.now) }
 {
     if 65536 < font.len() {
-        return Checked::Refused(Refusal::TOO_LONG, 0);
+        return Err(Refusal::TooLong.at(0));
     }
     begin(font)
 }

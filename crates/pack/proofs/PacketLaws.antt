@@ -23,26 +23,27 @@ use Rattle.format.proofs.PieceLaws.{box_true}
 use Rattle.format.proofs.FillLaws.{limits_small}
 use Rattle.format.proofs.PackTheorems.{chosen_most, chosen_none}
 use Rattle.format.proofs.FormLaws.{values_for, values_for_lem, first_length, none_length}
-use Rattle.refusals.specs.Names.{coded}
+use Rattle.std.specs.Prelude.{Ok, Err, Some, None}
+use Rattle.refusals.specs.Answers.{refused_at, numbers}
+use Rattle.refusals.proofs.NameLaws.{number_coded}
 use Rattle.size.specs.Sizes.{IsChosen}
 use Rattle.size.specs.declared.Chosen.{Chosen}
-use Rattle.pick.specs.Picks.{IsPicked}
+use Rattle.pick.specs.Picks.{tried, IsPicked}
 use Rattle.pick.specs.declared.Picked.{Picked}
-use Rattle.pick.specs.declared.Picked.TheVariants.{Short, Extended, Long, Nothing}
+use Rattle.pick.specs.declared.Picked.TheVariants.{Short, Extended, Long}
 use Rattle.head.specs.Head.{head_of, head_for, head_length}
 use Rattle.pack.specs.Answer.{in_numbers}
 use Rattle.pack.specs.Bitmaps.{Bitmap, raster_for}
-use Rattle.pack.specs.declared.Packed.TheVariants.{Length, Refused}
 
 -- A refusal.
 
 -- The answer is a refusal, and the buffer stays.
 abbrev pub Refuses : List ℕ → F.Measures → List ℕ → Refusal → Type 0
-Refuses b m buffer x = (in_numbers (Refused (coded x) 0) ≡ told (pack_answer b m buffer)) × (buffer ≡ pack_buffer b m buffer)
+Refuses b m buffer x = (in_numbers (Err (refused_at x 0)) ≡ told (pack_answer b m buffer)) × (buffer ≡ pack_buffer b m buffer)
 
 refuses : (b : List ℕ) (m : F.Measures) (buffer : List ℕ) (x : Refusal) → (number_and_place x 0).1 ≡ 0 → packed b m (length buffer) ≡ fault x → Refuses b m buffer x
-unfolding in_numbers told pack_answer pack_buffer answers lent pack answer_at
-refuses b m buffer x e q = (rw (q, e) refl, rw q refl)
+unfolding numbers told pack_answer pack_buffer answers lent pack answer_at
+refuses b m buffer x e q = (rw (q, number_coded x 0, e) refl, rw q refl)
 
 module _ (b : List ℕ) (m : F.Measures) (buffer : List ℕ) where
   -- 18.
@@ -100,31 +101,22 @@ abbrev IsForm : F.Measures → ℕ → Bool → List ℕ → Picked → Type 0
 IsForm m f black raster (Short dm x y) = Formed m f black raster (Short dm x y) short
 IsForm m f black raster (Extended dm x y) = Formed m f black raster (Extended dm x y) extended
 IsForm m f black raster (Long x y) = Formed m f black raster (Long x y) long
-IsForm m f black raster Nothing = first_form m (in_form f black m raster) ≡ fault no_form
 
 formed : (m : F.Measures) (f : ℕ) (black : Bool) (raster : List ℕ) (p : Picked) → IsPicked m (length raster) p → IsForm m f black raster p
 unfolding in_form
 formed m f black raster (Short dm x y) e = record { first = first_length f black m raster short e.0; head = head_alike f black m raster short; long = head_length_lem (in_form f black m raster short) }
 formed m f black raster (Extended dm x y) e = record { first = first_length f black m raster extended e.0; head = head_alike f black m raster extended; long = head_length_lem (in_form f black m raster extended) }
 formed m f black raster (Long x y) e = record { first = first_length f black m raster long e.0; head = head_alike f black m raster long; long = head_length_lem (in_form f black m raster long) }
-formed m f black raster Nothing e = none_length f black m raster e
 
--- A form is picked exactly if its head has bytes.
+-- Which form it is.
 record SomeForm (m : F.Measures) (f : ℕ) (black : Bool) (raster : List ℕ) (p : Picked) : Type 0 where
   k : Form
   is : Formed m f black raster p k
 
-some_form : (m : F.Measures) (f : ℕ) (black : Bool) (raster : List ℕ) (p : Picked) → (head_length p ≡ 0 → ⊥) → IsForm m f black raster p → SomeForm m f black raster p
-some_form m f black raster (Short dm x y) n t = record { k = short; is = t }
-some_form m f black raster (Extended dm x y) n t = record { k = extended; is = t }
-some_form m f black raster (Long x y) n t = record { k = long; is = t }
-some_form m f black raster Nothing n t = absurd (n refl)
-
-no_form_lem : (m : F.Measures) (f : ℕ) (black : Bool) (raster : List ℕ) (p : Picked) → head_length p ≡ 0 → IsForm m f black raster p → first_form m (in_form f black m raster) ≡ fault no_form
-no_form_lem m f black raster (Short dm x y) e t = absurd (omega arith)
-no_form_lem m f black raster (Extended dm x y) e t = absurd (omega arith)
-no_form_lem m f black raster (Long x y) e t = absurd (omega arith)
-no_form_lem m f black raster Nothing e t = t
+some_form : (m : F.Measures) (f : ℕ) (black : Bool) (raster : List ℕ) (p : Picked) → IsForm m f black raster p → SomeForm m f black raster p
+some_form m f black raster (Short dm x y) t = record { k = short; is = t }
+some_form m f black raster (Extended dm x y) t = record { k = extended; is = t }
+some_form m f black raster (Long x y) t = record { k = long; is = t }
 
 -- Behind the checks.
 
@@ -145,7 +137,6 @@ pub head_small : (p : Picked) → head_length p ≤ 37
 head_small (Short dm x y) = omega arith
 head_small (Extended dm x y) = omega arith
 head_small (Long x y) = omega arith
-head_small Nothing = omega arith
 
 -- The packet's bytes, if the buffer has room for them.
 abbrev placed : ℕ → Packet → Result (List ℕ)
@@ -156,7 +147,7 @@ checked : (b : List ℕ) (m : F.Measures) (room : ℕ) → within_limits m.w m.h
 unfolding packed need ◌>>=◌
 checked b m room l n q c = rw (l, eq-eqb (length b) (nat_abs m.w * nat_abs m.h) n, q, c) refl
 
-module _ (b : List ℕ) (w h : ℕ) (m : F.Measures) (t : Bitmap b w h m) (buffer : List ℕ) (r : Chosen) (c : IsChosen w h b r) (p : Picked) (e : IsPicked m r.bytes p) where
+module _ (b : List ℕ) (w h : ℕ) (m : F.Measures) (t : Bitmap b w h m) (buffer : List ℕ) (r : Chosen) (c : IsChosen w h b r) where
   abbrev black : Bool
   black = first_black r.f b
 
@@ -175,21 +166,19 @@ module _ (b : List ℕ) (w h : ℕ) (m : F.Measures) (t : Bitmap b w h m) (buffe
       ∙ ap (λ (x : Result Packet). x >>= placed (length buffer))
       (rw (← t.wide, ← t.high, ← c.f) refl)
 
-  form_is_lem : IsForm m r.f black raster p
-  form_is_lem = formed m r.f black raster p (subst (λ (n : ℕ). IsPicked m n p) raster_long e)
-
   -- No form holds.
-  module _ (z : head_length p ≡ 0) where
+  module _ (e : first_form m (tried m r.bytes) ≡ fault no_form) where
     none_packed : packed b m (length buffer) ≡ fault no_form
     unfolding ◌>>=◌
-    none_packed = packed_so ∙ rw (no_form_lem m r.f black raster p z form_is_lem) refl
+    none_packed = packed_so ∙ rw (none_length r.f black m raster (subst (λ (n : ℕ). first_form m (tried m n) ≡ fault no_form) raster_long e)) refl
 
     pub none_refused : Refuses b m buffer no_form
     none_refused = refuses b m buffer no_form refl none_packed
 
-  module _ (z : head_length p ≡ 0 → ⊥) where
+  -- A form p holds.
+  module _ (p : Picked) (e : IsPicked m r.bytes p) where
     some : SomeForm m r.f black raster p
-    some = some_form m r.f black raster p z form_is_lem
+    some = some_form m r.f black raster p (formed m r.f black raster p (subst (λ (n : ℕ). IsPicked m n p) raster_long e))
 
     abbrev chosen_packet : Packet
     chosen_packet = in_form r.f black m raster some.k
@@ -228,8 +217,8 @@ module _ (b : List ℕ) (w h : ℕ) (m : F.Measures) (t : Bitmap b w h m) (buffe
       unfolding need ◌>>=◌
       done_packed = placed_so ∙ rw (le-leb (length (bytes_of (packet chosen_packet))) (length buffer) (omega (arith, bytes_long))) refl
 
-      pub done_answer : (n : ℕ) → n ≡ head_length p + length raster → in_numbers (Length n) ≡ told (pack_answer b m buffer)
-      unfolding in_numbers told pack_answer answers pack answer_at
+      pub done_answer : (n : ℕ) → n ≡ head_length p + length raster → in_numbers (Ok n) ≡ told (pack_answer b m buffer)
+      unfolding numbers told pack_answer answers pack answer_at
       done_answer n q = rw done_packed (ap says (q ∙ ap (λ (x : ℕ). head_length p + x) (sym raster_long) ∙ sym bytes_long))
 
       pub done_buffer : (at n : ℕ) (d₁ d₂ : List ℕ) → at ≡ head_length p → d₁ ≡ head_for r.f black m r.bytes p ++ drop at buffer → n ≡ at + length raster

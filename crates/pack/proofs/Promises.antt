@@ -18,27 +18,24 @@ use Rattle.format.proofs.FormLaws.{first_is}
 use Rattle.format.proofs.PackTheorems as T
 use Rattle.format.proofs.PackTheorems.{packed_is, Ways, one_of_six}
 use Rattle.pack.specs.Answer.{in_numbers}
-use Rattle.pack.specs.declared.Packed.{Packed}
-use Rattle.pack.specs.declared.Packed.TheVariants.{Length, Refused}
+use Rattle.std.specs.declared.result.Result.{Result}
+use Rattle.refusals.specs.declared.Refused.{Refused}
+use Rattle.refusals.proofs.AnswerLaws.{one_numbers}
 
 -- One answer.
 
-pub one_number : (r t : Packed) → in_numbers r ≡ in_numbers t → r ≡ t
-unfolding in_numbers
-one_number (Length m) (Length n) e = let z : m ≡ n = cc in ap Length z
-one_number (Length m) (Refused x p) e = absurd (let z : ◌≡◌ {A = ℕ} 0 1 = cc in omega arith)
-one_number (Refused x p) (Length n) e = absurd (let z : ◌≡◌ {A = ℕ} 0 1 = cc in omega arith)
-one_number (Refused x p) (Refused y q) e = let z : x.0 ≡ y.0 = cc in let i : p ≡ q = cc in rw (z, i) refl
+pub one_number : (r t : Result ℕ Refused) → in_numbers r ≡ in_numbers t → r ≡ t
+one_number r t e = one_numbers (λ (n : ℕ). n) (λ a b i. i) r t e
 
 -- Any two answers that the promise allows are equal, and so are the buffers that it allows: no other packet is allowed.
-pub one_answer : (b : List ℕ) (m : F.Measures) (buffer : List ℕ) (r t : Packed) (after after' : List ℕ)
+pub one_answer : (b : List ℕ) (m : F.Measures) (buffer : List ℕ) (r t : Result ℕ Refused) (after after' : List ℕ)
     → in_numbers r ≡ told (pack_answer b m buffer) → after ≡ pack_buffer b m buffer → in_numbers t ≡ told (pack_answer b m buffer) → after' ≡ pack_buffer b m buffer → (r ≡ t) × (after ≡ after')
 one_answer b m buffer r t after after' e o f q = (one_number r t (e ∙ sym f), o ∙ sym q)
 
 -- What it says.
 
 -- An answer r that the promise allows of a bitmap b with measures m and a lent buffer, and what the buffer holds afterwards.
-module _ (b : List ℕ) (m : F.Measures) (buffer : List ℕ) (r : Packed) (after : List ℕ) (promised : in_numbers r ≡ told (pack_answer b m buffer)) (left : after ≡ pack_buffer b m buffer) where
+module _ (b : List ℕ) (m : F.Measures) (buffer : List ℕ) (r : Result ℕ Refused) (after : List ℕ) (promised : in_numbers r ≡ told (pack_answer b m buffer)) (left : after ≡ pack_buffer b m buffer) where
   answer_of : (a : Answer (List ℕ)) → pack b m (length buffer) ≡ a → in_numbers r ≡ told (answers length a)
   unfolding pack_answer
   answer_of a e = promised ∙ rw e refl

@@ -1,10 +1,10 @@
 -- What packing answers, in 01's numbers. Assumes nothing: these are definitions.
 use Rattle.std.specs.Prelude.{ℕ}
-use Rattle.format.specs.Refusals.{Told, says, refuses}
-use Rattle.pack.specs.declared.Packed.{Packed}
-use Rattle.pack.specs.declared.Packed.TheVariants.{Length, Refused}
+use Rattle.std.specs.declared.result.Result.{Result}
+use Rattle.format.specs.Refusals.{Told}
+use Rattle.refusals.specs.declared.Refused.{Refused}
+use Rattle.refusals.specs.Answers.{numbers}
 
 -- The packet's length, or a refusal's number and place.
-unfoldable pub in_numbers : Packed → Told ℕ
-in_numbers (Length n) = says n
-in_numbers (Refused x place) = refuses x.0 place
+abbrev pub in_numbers : Result ℕ Refused → Told ℕ
+in_numbers = numbers (λ n. n)

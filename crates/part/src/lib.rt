@@ -1,64 +1,121 @@
-// A part of the count list of a bitmap, kept in two lent arrays: most bitmaps are walked once, and the walk is called from one place.
+// A part of the count list of a bitmap, kept in fixed memory: most bitmaps are walked once, and the walk is called from one place.
 #![tactic(auto)]
 
+ghost use Rattle.std.specs.Prelude.{◌≡◌, ◌≤◌, ◌↔◌, IsTrue};
 ghost use Rattle.walk.specs.Walk.{begin, Inside};
-ghost use Rattle.part.specs.Parts.{Room, Kept, First};
+ghost use Rattle.part.specs.Parts.{taken, Kept, First};
 
-use walk::{Count, Cursor};
+use walk::Cursor;
 
-// The number of runs kept, and the cursor behind them.
+// How many runs a part has room for.
+pub const ROOM: usize = 512;
+
+// A run: its length, and the repeat that stands before it, 0 for none.
 #[derive(Clone, Copy)]
+pub struct Run {
+    pub length: u32,
+    pub repeat: u32,
+}
+
+// The first n of the runs are kept, and the cursor is behind them. A full part is not taken for the whole list.
+#[derive(Drop)]
 pub struct Part {
-    pub n: usize,
-    pub cursor: Cursor,
+    runs: [Run; ROOM],
+    n: usize,
+    cursor: Cursor,
 }
 
-// The next runs, as many as there is room for: their lengths, and the repeats that stand before them.
-pub fn part_from(
-    b: &[u8],
-    w: usize,
-    c: Cursor,
-    lengths: &mut [u32; 512],
-    repeats: &mut [u32; 512],
-) -> Part
-    requires { Inside b.now w c × Room lengths.old repeats.old }
-    ensures { Kept b.now w c lengths.new repeats.new result }
-{
-    let mut n: usize = 0;
-    let mut d = c;
-    while n < 512 {
-        let next = walk::next_run(b, w, d);
-        let Count::Run(k, m, e) = next else {
-            return Part { n, cursor: d };
+impl Part {
+    // A full part of no bitmap.
+    pub fn new() -> Part
+        ensures { result.n ≡ ROOM }
+    {
+        let none = Run {
+            length: 0,
+            repeat: 0,
         };
-        lengths[n] = k as u32;
-        repeats[n] = m as u32;
-        n += 1;
-        // Field by field, since a copy of the whole would copy its padding too.
-        d = Cursor {
-            at: e.at,
-            end: e.end,
-            next: e.next,
-            owed: e.owed,
-            before: e.before,
-        };
+        Part {
+            runs: [none; ROOM],
+            n: ROOM,
+            cursor: walk::start(),
+        }
     }
-    Part { n, cursor: d }
-}
 
-// The first part, which is walked again unless it is the whole list and still kept.
-pub fn first_part(
-    b: &[u8],
-    w: usize,
-    p: Part,
-    lengths: &mut [u32; 512],
-    repeats: &mut [u32; 512],
-) -> Part
-    requires { Inside b.now w begin × First b.now w p lengths.old repeats.old }
-    ensures { Kept b.now w begin lengths.new repeats.new result }
-{
-    if p.n < 512 {
-        return p;
+    // What is kept is not the whole list.
+    pub fn forget(&mut self)
+        ensures { self.new.n ≡ ROOM }
+    {
+        self.n = self.runs.len();
     }
-    part_from(b, w, walk::start(), lengths, repeats)
+
+    // There is room for no more.
+    pub fn is_full(&self) -> bool
+        ensures { IsTrue result ↔ (ROOM ≤ self.now.n) }
+    {
+        ROOM <= self.n
+    }
+
+    // The runs kept.
+    pub fn runs(&self) -> &[Run]
+        requires { self.now.n ≤ ROOM }
+        ensures { result.now ≡ taken self.now }
+    {
+        &self.runs[..self.n]
+    }
+
+    // The next runs from c on, as many as there is room for.
+    fn fill(&mut self, b: &[u8], w: usize, c: Cursor)
+        requires { Inside b.now w c }
+        ensures { Kept b.now w c self.new }
+    {
+        let mut d = c;
+        for n in 0..ROOM {
+            let Some(next) = walk::next_run(b, w, d) else {
+                self.n = n;
+                self.cursor = d;
+                return;
+            };
+            self.runs[n] = Run {
+                length: next.length as u32,
+                repeat: next.repeat as u32,
+            };
+            let e = next.cursor;
+            // Field by field, since a copy of the whole would copy its padding too.
+            d = Cursor {
+                at: e.at,
+                end: e.end,
+                next: e.next,
+                owed: e.owed,
+                before: e.before,
+            };
+        }
+        self.n = ROOM;
+        self.cursor = d;
+    }
+
+    // The first runs of the list.
+    pub fn restart(&mut self, b: &[u8], w: usize)
+        requires { Inside b.now w begin }
+        ensures { Kept b.now w begin self.new }
+    {
+        self.fill(b, w, walk::start());
+    }
+
+    // The runs behind those kept.
+    pub fn walk_on(&mut self, b: &[u8], w: usize)
+        requires { Inside b.now w self.old.cursor }
+        ensures { Kept b.now w self.old.cursor self.new }
+    {
+        self.fill(b, w, self.cursor);
+    }
+
+    // The first part, which is walked again unless it is the whole list and still kept.
+    pub fn first(&mut self, b: &[u8], w: usize)
+        requires { Inside b.now w begin × First b.now w self.old }
+        ensures { Kept b.now w begin self.new }
+    {
+        if self.is_full() {
+            self.restart(b, w);
+        }
+    }
 }

@@ -1,6 +1,5 @@
 -- The bytes of a number, the least first. Assumes nothing.
-use Rattle.std.proofs.Common.{◌≡◌, ℕ, zero, suc, ◌+◌, ◌*◌, ◌/◌, ◌<◌, List, [], ◌∷◌, length, get_or, replicate, refl, ap, ◌∙◌, arith}
-use lib.ListN.{get_or-replicate}
+use Rattle.std.proofs.Common.{◌≡◌, ℕ, zero, suc, ◌+◌, ◌*◌, ◌/◌, ◌<◌, List, [], ◌∷◌, length, get_or, refl, ap, ◌∙◌, arith}
 use Rattle.scan.specs.Scan.{byte_of, Eight}
 
 -- The number of some bytes, and that they are bytes.
@@ -22,26 +21,22 @@ byte_number (x ∷ xs) h (suc i) l =
     ap (byte_of i) e ∙ byte_number xs h.1 i (omega arith)
 
 -- Eight bytes read at once.
-places : (b : List ℕ) (at i : ℕ) → i < 8 → get_or (get_or b at 0 ∷ get_or b (at + 1) 0 ∷ get_or b (at + 2) 0 ∷ get_or b (at + 3) 0 ∷ get_or b (at + 4) 0 ∷ get_or b (at + 5) 0 ∷ get_or b (at + 6) 0 ∷ get_or b (at + 7) 0 ∷ []) i 0 ≡ get_or b (at + i) 0
-places b at zero h = ap (λ (k : ℕ). get_or b k 0) (omega arith)
-places b at (suc zero) h = refl
-places b at (suc (suc zero)) h = refl
-places b at (suc (suc (suc zero))) h = refl
-places b at (suc (suc (suc (suc zero)))) h = refl
-places b at (suc (suc (suc (suc (suc zero))))) h = refl
-places b at (suc (suc (suc (suc (suc (suc zero)))))) h = refl
-places b at (suc (suc (suc (suc (suc (suc (suc zero))))))) h = refl
-places b at (suc (suc (suc (suc (suc (suc (suc (suc i)))))))) h = absurd (omega arith)
+places : (f : ℕ → ℕ) (i : ℕ) → i < 8 → get_or (f 0 ∷ f 1 ∷ f 2 ∷ f 3 ∷ f 4 ∷ f 5 ∷ f 6 ∷ f 7 ∷ []) i 0 ≡ f i
+places f zero h = refl
+places f (suc zero) h = refl
+places f (suc (suc zero)) h = refl
+places f (suc (suc (suc zero))) h = refl
+places f (suc (suc (suc (suc zero)))) h = refl
+places f (suc (suc (suc (suc (suc zero))))) h = refl
+places f (suc (suc (suc (suc (suc (suc zero)))))) h = refl
+places f (suc (suc (suc (suc (suc (suc (suc zero))))))) h = refl
+places f (suc (suc (suc (suc (suc (suc (suc (suc i)))))))) h = absurd (omega arith)
 
-pub eight_byte : (b : List ℕ) (at r i : ℕ) → Eight b at r → i < 8 → byte_of i r ≡ get_or b (at + i) 0
-eight_byte b at r i e h =
-    let l = get_or b at 0 ∷ get_or b (at + 1) 0 ∷ get_or b (at + 2) 0 ∷ get_or b (at + 3) 0 ∷ get_or b (at + 4) 0 ∷ get_or b (at + 5) 0 ∷ get_or b (at + 6) 0 ∷ get_or b (at + 7) 0 ∷ [] in
+pub eight_byte : (f : ℕ → ℕ) (r i : ℕ) → Eight f r → i < 8 → byte_of i r ≡ f i
+eight_byte f r i e h =
+    let l = f 0 ∷ f 1 ∷ f 2 ∷ f 3 ∷ f 4 ∷ f 5 ∷ f 6 ∷ f 7 ∷ [] in
     let q : r ≡ number l = omega (arith, e.is) in
-    let s = e.bytes in
-    ap (byte_of i) q ∙ byte_number l (s.0, (s.1, (s.2, (s.3, (s.4, (s.5, (s.6, (s.7, tt)))))))) i h ∙ places b at i h
-
--- One byte eight times.
-pub ones_byte : (x i : ℕ) → x < 256 → i < 8 → byte_of i (x * 72340172838076673) ≡ x
-ones_byte x i l h =
-    let q : x * 72340172838076673 ≡ number (replicate 8 x) = omega arith in
-    ap (byte_of i) q ∙ byte_number (replicate 8 x) (l, (l, (l, (l, (l, (l, (l, (l, tt)))))))) i h ∙ get_or-replicate 8 i x 0 h
+    let s : (j : ℕ) → j < 8 → f j < 256 = e.bytes in
+    ap (byte_of i) q
+    ∙ byte_number l (s 0 (omega arith), (s 1 (omega arith), (s 2 (omega arith), (s 3 (omega arith), (s 4 (omega arith), (s 5 (omega arith), (s 6 (omega arith), (s 7 (omega arith), tt)))))))) i h
+    ∙ places f i h

@@ -1,5 +1,5 @@
 -- The first place of which a predicate does not hold, looked for piece by piece. Assumes nothing.
-use Rattle.std.proofs.Common.{◌≡◌, ℕ, zero, suc, ◌+◌, ◌-◌, ◌<◌, ◌≤◌, subst, lt_of_not-le, arith, below_more}
+use Rattle.std.proofs.Common.{◌≡◌, ℕ, zero, suc, ◌+◌, ◌-◌, ◌<◌, ◌≤◌, subst, lt_of_not-le, min, arith, below_more}
 use native.Mathlib.Decide.{dec_le}
 use Rattle.scan.specs.Scan.{First}
 
@@ -52,6 +52,12 @@ first_fewer P m n k f l g = record { most = omega arith; below = f.below; stop =
 
 pub first_past : (P : ℕ → Type 0) (m n k : ℕ) → First P m k → n ≤ k → First P n n
 first_past P m n k f l = record { most = omega arith; below = λ i h. f.below i (omega arith); stop = λ h. absurd (omega arith) }
+
+pub first_least : {P : ℕ → Type 0} {m n k r : ℕ} → r ≡ min k n → First P m k → n ≤ m → First P n r
+first_least {P} {m} {n} {k} {r} e f l = elim (dec_le n k) [
+  | yes h ↦ (let q : n ≡ r = omega arith in subst (λ (j : ℕ). First P n j) q (first_past P m n k f h))
+  | no h ↦ (let q : k ≡ r = omega arith in subst (λ (j : ℕ). First P n j) q (first_fewer P m n k f l (lt_of_not-le h)))
+]
 
 -- The first place is one later behind one place more of which P holds.
 pub first_suc : (P : ℕ → Type 0) (n k : ℕ) → P 0 → First (λ (i : ℕ). P (suc i)) n k → First P (suc n) (suc k)

@@ -30,16 +30,18 @@ unfoldable pub byte_of : ℕ → ℕ → ℕ
 byte_of zero x = x % 256
 byte_of (suc i) x = byte_of i (x / 256)
 
--- The eight bytes from a place on as one number, the first least.
-abbrev pub eight_of : List ℕ → ℕ → ℕ
-eight_of b at =
-    slice_index b at + slice_index b (at + 1) * 256 + slice_index b (at + 2) * 65536 + slice_index b (at + 3) * 16777216 + slice_index b (at + 4) * 4294967296 + slice_index b (at + 5) * 1099511627776
-    + slice_index b (at + 6) * 281474976710656 + slice_index b (at + 7) * 72057594037927936
+-- Two functions give the same byte at a place.
+pub record AreSame (f g : ℕ → ℕ) (i : ℕ) : Type 0 where
+  pub is : f i ≡ g i
+
+-- The first eight bytes that f gives as one number, the first least.
+abbrev pub eight_of : (ℕ → ℕ) → ℕ
+eight_of f = f 0 + f 1 * 256 + f 2 * 65536 + f 3 * 16777216 + f 4 * 4294967296 + f 5 * 1099511627776 + f 6 * 281474976710656 + f 7 * 72057594037927936
 
 -- r is that number, of bytes.
-pub record Eight (b : List ℕ) (at r : ℕ) : Type 0 where
-  pub is : r ≡ eight_of b at
-  pub bytes : (slice_index b at < 256) × (slice_index b (at + 1) < 256) × (slice_index b (at + 2) < 256) × (slice_index b (at + 3) < 256) × (slice_index b (at + 4) < 256) × (slice_index b (at + 5) < 256) × (slice_index b (at + 6) < 256) × (slice_index b (at + 7) < 256)
+pub record Eight (f : ℕ → ℕ) (r : ℕ) : Type 0 where
+  pub is : r ≡ eight_of f
+  pub bytes : (i : ℕ) → i < 8 → f i < 256
 
 -- k of the eight bytes of x and y are equal before the first that differ.
 abbrev pub Alike : ℕ → ℕ → ℕ → Type 0

@@ -14,8 +14,7 @@ use Rattle.format.specs.Counts.{Pixel, pixel, Run, stretch, grow, runs, listed}
 use Rattle.scan.specs.Scan.{FirstOther}
 use Rattle.walk.specs.declared.Cursor.{Cursor}
 use Rattle.walk.specs.declared.Count.{Count}
-use Rattle.walk.specs.declared.Count.TheVariants as C
-use Rattle.walk.specs.Walk.{left, items_left, Inside, Next, Counted, Entered, Standing, ahead, begun, Open, Closed, Ended, InRow, full, some}
+use Rattle.walk.specs.Walk.{left, items_left, Inside, Next, Entered, Standing, ahead, begun, Open, Closed, Ended, InRow, full, some}
 use Rattle.walk.proofs.LeftLaws.{left_over_lem, room, left_begun, Other, other_in, other_next}
 
 -- Runs.
@@ -228,10 +227,6 @@ closed_items {b} {w} {x} {k} {m} {n} {r} {c} {d} {e} g h = record {
   inside = h.inside;
 }
 
-counted : {b : List ℕ} {w k m : ℕ} {c d : Cursor} (x : ℕ) (t : Count) → Running b w x 0 0 c k m d → Ended b w x k m d t → Counted b w c t
-counted x (C.Run n r e) g h = closed_items g h
-counted x C.Done g h = absurd h
-
 -- The pixels of a run in its row: another colour follows there, or the row is full, and what goes on from there is the next run.
 pub row_counted : {b : List ℕ} {w x n m : ℕ} {c d : Cursor} → Inside b w c → InRow b c x n m d → d.at < d.end → Next b w c n m d
 row_counted i (full l o) h = absurd (omega arith)
@@ -241,9 +236,9 @@ pub row_open : {b : List ℕ} {w x n m : ℕ} {c d : Cursor} → Inside b w c �
 row_open i (full l o) h = record { inside = i; full = h; before = λ e. absurd (omega arith); none = λ e. refl; next = λ e. (o, refl); many = omega arith; few = omega arith }
 row_open i (some l f s) h = open_full (first_row i l f s) h
 
-pub rows_counted : {b : List ℕ} {w x n m : ℕ} {c d : Cursor} (t : Count) → Inside b w c → InRow b c x n m d → Ended b w x n m d t → Counted b w c t
-rows_counted {b} {w} {x} {n} {m} {c} t i (full l o) e = counted x t (running_none b w x c i) e
-rows_counted {b} {w} {x} {n} {m} {c} t i (some l f s) e = counted x t (first_row i l f s).1 e
+pub rows_counted : {b : List ℕ} {w x n m : ℕ} {c d : Cursor} (t : Count) → Inside b w c → InRow b c x n m d → Ended b w x n m d t → Next b w c t.length t.repeat t.cursor
+rows_counted {b} {w} {x} {n} {m} {c} t i (full l o) e = closed_items (running_none b w x c i) e
+rows_counted {b} {w} {x} {n} {m} {c} t i (some l f s) e = closed_items (first_row i l f s).1 e
 
 -- Nothing is left.
 pub items_done : (b : List ℕ) (w : ℕ) (c : Cursor) → left b w c ≡ [] → items_left b w c ≡ []

@@ -1,11 +1,10 @@
 -- What is left of the count list at a cursor, and what the functions of this crate answer. Assumes nothing: these are definitions.
-use Rattle.std.specs.Prelude.{ℕ, zero, suc, ◌+◌, ◌-◌, ◌*◌, ◌/◌, ◌≤◌, ◌<◌, ◌≡◌, List, [], ◌∷◌, ◌++◌, cond, eqb, length, take, drop, get_or, replicate}
+use Rattle.std.specs.Prelude.{ℕ, zero, suc, ◌+◌, ◌-◌, ◌*◌, ◌/◌, ◌≤◌, ◌<◌, ◌≡◌, List, [], ◌∷◌, ◌++◌, cond, eqb, Option, Some, None, length, take, drop, get_or, replicate}
 use Rattle.format.specs.Rasters.{Item, run, rows}
 use Rattle.format.specs.Counts.{row, kept, Pixel, pixel, placed, last_of, strung, stretch, runs, before, listed}
 use Rattle.scan.specs.Scan.{FirstOther}
 use Rattle.walk.specs.declared.Cursor.{Cursor}
 use Rattle.walk.specs.declared.Count.{Count}
-use Rattle.walk.specs.declared.Count.TheVariants as C
 
 -- The rows of w pixels from a place on.
 unfoldable pub rows_from : List ℕ → ℕ → ℕ → List (List ℕ)
@@ -42,9 +41,9 @@ pub record Next (b : List ℕ) (w : ℕ) (c : Cursor) (k m : ℕ) (d : Cursor) :
   pub inside : Inside b w d
 
 -- The next run, or the end.
-abbrev pub Counted : List ℕ → ℕ → Cursor → Count → Type 0
-Counted b w c (C.Run k m d) = Next b w c k m d
-Counted b w c C.Done = items_left b w c ≡ []
+abbrev pub Counted : List ℕ → ℕ → Cursor → Option Count → Type 0
+Counted b w c (Some r) = Next b w c r.length r.repeat r.cursor
+Counted b w c None = items_left b w c ≡ []
 
 -- Before the first pixel, after an imaginary white one.
 abbrev pub begin : Cursor
@@ -110,8 +109,7 @@ pub record Closed (b : List ℕ) (w x k m : ℕ) (c : Cursor) (n r : ℕ) (d : C
 
 -- The answer is such a run.
 abbrev pub Ended : List ℕ → ℕ → ℕ → ℕ → ℕ → Cursor → Count → Type 0
-Ended b w x k m c (C.Run n r d) = Closed b w x k m c n r d
-Ended b w x k m c C.Done = ⊥
+Ended b w x k m c r = Closed b w x k m c r.length r.repeat r.cursor
 
 -- The next run at c, of the colour x: n of its pixels are in the row, with the repeat m before them, and d is the cursor after them; or the row is full.
 pub data InRow (b : List ℕ) (c : Cursor) : ℕ → ℕ → ℕ → Cursor → Type 0 where

@@ -17,20 +17,19 @@ pub struct Cursor {
     pub before: u8,
 }
 
-// The next run: its length, the repeat that stands before it (0 for none), and the cursor after it.
+// A run: its length, the repeat that stands before it (0 for none), and the cursor after it.
 #[derive(Clone, Copy)]
-pub enum Count {
-    Run(usize, usize, Cursor),
-    Done,
+pub struct Count {
+    pub length: usize,
+    pub repeat: usize,
+    pub cursor: Cursor,
 }
 
-// A run as far as it is taken: its colour and length, the repeat that stands before it, and the cursor after it.
+// A run as far as it is taken, and its colour.
 #[derive(Clone, Copy)]
 struct Taken {
     colour: u8,
-    length: usize,
-    repeat: usize,
-    cursor: Cursor,
+    run: Count,
 }
 
 // Where the next row kept begins, and the number of rows removed before it.
@@ -46,11 +45,7 @@ fn mixed_row(b: &[u8], at: usize, w: usize) -> bool
     ensures { result ≡ mixed (take w (drop at b.now)) }
 {
     let x = b[at];
-    let k = scan::first_other(b, at, w, x);
-    if k < w {
-        return true;
-    }
-    1 < x
+    scan::first_other(b, at, w, x) < w || 1 < x
 }
 
 // The rows of w pixels from x and from y on are equal.
@@ -72,10 +67,8 @@ fn repeats_of(b: &[u8], w: usize, at: usize) -> Removed
         if !same_rows(b, at, next, w) {
             return Removed { next, n };
         }
-        if n == 0 {
-            if !mixed_row(b, at, w) {
-                return Removed { next, n };
-            }
+        if n == 0 && !mixed_row(b, at, w) {
+            return Removed { next, n };
         }
         next += w;
         n += 1;
@@ -88,11 +81,10 @@ fn enter(b: &[u8], w: usize, c: Cursor) -> Cursor
     requires { (Inside b.now w c) × (c.end ≤ c.at) × (c.next < length b.now) }
     ensures { Entered b.now w c result }
 {
-    let at = c.next;
-    let r = repeats_of(b, w, at);
+    let r = repeats_of(b, w, c.next);
     Cursor {
-        at,
-        end: at + w,
+        at: c.next,
+        end: c.next + w,
         next: r.next,
         owed: r.n,
         before: c.before,
@@ -103,38 +95,34 @@ fn enter(b: &[u8], w: usize, c: Cursor) -> Cursor
 fn repeat_before(x: u8, before: u8, owed: usize) -> usize
     ensures { Standing x before owed result }
 {
-    if x == before {
-        return 0;
-    }
-    owed
+    if x == before { 0 } else { owed }
 }
 
-// The run of x that has k pixels, where its row is full, with the repeat m before it, goes on in the rows that follow.
-fn across(b: &[u8], w: usize, x: u8, k: usize, m: usize, c: Cursor) -> Count
-    requires { Open b.now w x k m c }
-    ensures { Ended b.now w x k m c result }
+// The run taken so far, where its row is full, goes on in the rows that follow.
+fn across(b: &[u8], w: usize, t: Taken) -> Count
+    requires { Open b.now w t.colour t.run.length t.run.repeat t.run.cursor }
+    ensures { Ended b.now w t.colour t.run.length t.run.repeat t.run.cursor result }
 {
-    let mut length = k;
-    let mut repeat = m;
-    let mut d = c;
+    let x = t.colour;
+    let mut r = t.run;
     loop {
-        let next = d.next;
-        if b.len() <= next {
-            return Count::Run(length, repeat, d);
+        let next = r.cursor.next;
+        if b.len() <= next || b[next] != x {
+            return r;
         }
-        if b[next] != x {
-            return Count::Run(length, repeat, d);
-        }
-        d = enter(b, w, d);
+        let mut d = enter(b, w, r.cursor);
         let n = scan::first_other(b, d.at, d.end - d.at, x);
-        let r = repeat_before(x, d.before, d.owed);
-        length += n;
-        repeat += r;
+        let m = repeat_before(x, d.before, d.owed);
         d.at += n;
-        d.owed -= r;
+        d.owed -= m;
         d.before = x;
+        r = Count {
+            length: r.length + n,
+            repeat: r.repeat + m,
+            cursor: d,
+        };
         if d.at < d.end {
-            return Count::Run(length, repeat, d);
+            return r;
         }
     }
 }
@@ -142,54 +130,51 @@ fn across(b: &[u8], w: usize, x: u8, k: usize, m: usize, c: Cursor) -> Count
 // The next run as far as it goes in its row; where the row is full, none of it yet.
 fn run_in_row(b: &[u8], c: Cursor) -> Taken
     requires { (c.end ≤ length b.now) × (c.end ≤ c.at → c.next < length b.now) }
-    ensures { InRow b.now c result.colour result.length result.repeat result.cursor }
+    ensures { InRow b.now c result.colour result.run.length result.run.repeat result.run.cursor }
 {
-    let at = c.at;
-    let next = c.next;
-    if c.end <= at {
-        return Taken {
-            colour: b[next],
+    if c.end <= c.at {
+        let run = Count {
             length: 0,
             repeat: 0,
             cursor: c,
         };
+        return Taken {
+            colour: b[c.next],
+            run,
+        };
     }
-    let colour = b[at];
-    let length = scan::first_other(b, at, c.end - at, colour);
+    let colour = b[c.at];
+    let length = scan::first_other(b, c.at, c.end - c.at, colour);
     let repeat = repeat_before(colour, c.before, c.owed);
     let cursor = Cursor {
-        at: at + length,
+        at: c.at + length,
         end: c.end,
-        next,
+        next: c.next,
         owed: c.owed - repeat,
         before: colour,
     };
-    Taken {
-        colour,
+    let run = Count {
         length,
         repeat,
         cursor,
-    }
+    };
+    Taken { colour, run }
 }
 
-// The next run of the joined string.
-pub fn next_run(b: &[u8], w: usize, c: Cursor) -> Count
+// The next run of the joined string, or none at its end.
+pub fn next_run(b: &[u8], w: usize, c: Cursor) -> Option<Count>
     requires { Inside b.now w c }
     ensures { Counted b.now w c result }
 {
-    if c.end <= c.at {
-        if b.len() <= c.next {
-            return Count::Done;
-        }
+    if c.end <= c.at && b.len() <= c.next {
+        return None;
     }
     let t = run_in_row(b, c);
-    let d = t.cursor;
-    let k = t.length;
-    let m = t.repeat;
+    let d = t.run.cursor;
     if d.at < d.end {
-        return Count::Run(k, m, d);
+        return Some(t.run);
     }
-    across(b, w, t.colour, k, m, d)
+    Some(across(b, w, t))
 }
 
 // The cursor before the first pixel, after an imaginary white one.

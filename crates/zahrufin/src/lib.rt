@@ -11,14 +11,11 @@ ghost use Rattle.measures.specs.Said.{said};
 ghost use Rattle.zahrufin.specs.Handed.{measures_of, plain_of, no_measures, checked_for, drawn_for, packed_for};
 
 use escapement::Scaled;
-use font::Checked;
-use glyph::Drawn;
 use measures::Measures;
-use pack::Packed;
 
 // zahrufin_measures.
 #[repr(C)]
-#[derive(Clone, Copy)]
+#[derive(Clone, Copy, Debug, PartialEq, Eq)]
 pub struct PlainMeasures {
     pub code: i64,
     pub w: i64,
@@ -32,7 +29,7 @@ pub struct PlainMeasures {
 
 // zahrufin_checked.
 #[repr(C)]
-#[derive(Clone, Copy)]
+#[derive(Clone, Copy, Debug, PartialEq, Eq)]
 pub struct PlainChecked {
     pub refusal: u32,
     pub place: u32,
@@ -41,7 +38,7 @@ pub struct PlainChecked {
 
 // zahrufin_drawn.
 #[repr(C)]
-#[derive(Clone, Copy)]
+#[derive(Clone, Copy, Debug, PartialEq, Eq)]
 pub struct PlainDrawn {
     pub refusal: u32,
     pub place: u32,
@@ -50,52 +47,16 @@ pub struct PlainDrawn {
 
 // zahrufin_packed.
 #[repr(C)]
-#[derive(Clone, Copy)]
+#[derive(Clone, Copy, Debug, PartialEq, Eq)]
 pub struct PlainPacked {
     pub refusal: u32,
     pub place: u32,
     pub length: u32,
 }
 
-// The measures as C has them.
-fn plain(m: Measures) -> PlainMeasures
-    ensures { result ≡ plain_of (said m) }
-{
-    let dx = m.dx;
-    let dy = m.dy;
-    PlainMeasures {
-        code: m.code,
-        w: m.w,
-        h: m.h,
-        tfm: m.tfm,
-        dx: dx.0,
-        dy: dy.0,
-        hoff: m.hoff,
-        voff: m.voff,
-    }
-}
-
-// C's measures as the calls take them.
-fn taken(m: PlainMeasures) -> Measures
-    ensures { said result ≡ measures_of m }
-{
-    Measures {
-        code: m.code,
-        w: m.w,
-        h: m.h,
-        tfm: m.tfm,
-        dx: Scaled(m.dx),
-        dy: Scaled(m.dy),
-        hoff: m.hoff,
-        voff: m.voff,
-    }
-}
-
-// No measures.
-fn none() -> PlainMeasures
-    ensures { result ≡ no_measures }
-{
-    PlainMeasures {
+impl PlainMeasures {
+    // Where an answer has no measures.
+    const NONE: PlainMeasures = PlainMeasures {
         code: 0,
         w: 0,
         h: 0,
@@ -104,6 +65,42 @@ fn none() -> PlainMeasures
         dy: 0,
         hoff: 0,
         voff: 0,
+    };
+}
+
+// The measures as C has them.
+impl From<Measures> for PlainMeasures {
+    ghost from_gives = { λ m r. r ≡ plain_of (said m) };
+
+    fn from(m: Measures) -> PlainMeasures {
+        PlainMeasures {
+            code: m.code,
+            w: m.w,
+            h: m.h,
+            tfm: m.tfm,
+            dx: m.dx.0,
+            dy: m.dy.0,
+            hoff: m.hoff,
+            voff: m.voff,
+        }
+    }
+}
+
+// C's measures as the calls take them.
+impl From<PlainMeasures> for Measures {
+    ghost from_gives = { λ m r. said r ≡ measures_of m };
+
+    fn from(m: PlainMeasures) -> Measures {
+        Measures {
+            code: m.code,
+            w: m.w,
+            h: m.h,
+            tfm: m.tfm,
+            dx: Scaled(m.dx),
+            dy: Scaled(m.dy),
+            hoff: m.hoff,
+            voff: m.voff,
+        }
     }
 }
 
@@ -111,16 +108,15 @@ fn none() -> PlainMeasures
 pub fn zahrufin_check(font: &[u8]) -> PlainChecked
     ensures { result ≡ checked_for (told (check font.now)) }
 {
-    let checked = font::check(font);
-    match checked {
-        Checked::Chars(n) => PlainChecked {
+    match font::check(font) {
+        Ok(n) => PlainChecked {
             refusal: 0,
             place: 0,
             chars: n as u32,
         },
-        Checked::Refused(x, place) => PlainChecked {
-            refusal: x.0 as u32,
-            place: place as u32,
+        Err(x) => PlainChecked {
+            refusal: x.refusal.number(),
+            place: x.place as u32,
             chars: 0,
         },
     }
@@ -131,17 +127,16 @@ pub fn zahrufin_draw(font: &[u8], code: u64, pixels: &mut [u8]) -> PlainDrawn
     ensures value { result ≡ drawn_for (told (draw_answer font.now code pixels.old)) }
     ensures pixels_after { pixels.new ≡ draw_buffer font.now code pixels.old }
 {
-    let drawn = draw::draw(font, code as usize, pixels);
-    match drawn {
-        Drawn::Measured(m) => PlainDrawn {
+    match draw::draw(font, code as usize, pixels) {
+        Ok(m) => PlainDrawn {
             refusal: 0,
             place: 0,
-            measures: plain(m),
+            measures: PlainMeasures::from(m),
         },
-        Drawn::Refused(x, place) => PlainDrawn {
-            refusal: x.0 as u32,
-            place: place as u32,
-            measures: none(),
+        Err(x) => PlainDrawn {
+            refusal: x.refusal.number(),
+            place: x.place as u32,
+            measures: PlainMeasures::NONE,
         },
     }
 }
@@ -151,16 +146,15 @@ pub fn zahrufin_pack(bitmap: &[u8], measures: PlainMeasures, packet: &mut [u8]) 
     ensures value { result ≡ packed_for (told (pack_answer bitmap.now (measures_of measures) packet.old)) }
     ensures packet_after { packet.new ≡ pack_buffer bitmap.now (measures_of measures) packet.old }
 {
-    let packed = pack::pack(bitmap, taken(measures), packet);
-    match packed {
-        Packed::Length(n) => PlainPacked {
+    match pack::pack(bitmap, Measures::from(measures), packet) {
+        Ok(n) => PlainPacked {
             refusal: 0,
             place: 0,
             length: n as u32,
         },
-        Packed::Refused(x, place) => PlainPacked {
-            refusal: x.0 as u32,
-            place: place as u32,
+        Err(x) => PlainPacked {
+            refusal: x.refusal.number(),
+            place: x.place as u32,
             length: 0,
         },
     }

@@ -3,8 +3,8 @@ use lib.ListN.{length}
 use Rattle.walk.proofs.RunLaws.{Waiting}
 use Rattle.walk.proofs.across.Given as goal
 
-abbrev pub invariant-loop-d : goal.invariant-loop-d
-invariant-loop-d l = Waiting l.b l.w l.x l.k l.m l.initial.d l.length l.repeat l.d
+abbrev pub invariant-loop-r : goal.invariant-loop-r
+invariant-loop-r l = Waiting l.b l.w l.x l.initial.r.length l.initial.r.repeat l.initial.r.cursor l.r.length l.r.repeat l.r.cursor
 
-abbrev pub decreases-loop-d : goal.decreases-loop-d
-decreases-loop-d l = length l.b - l.d.end
+abbrev pub decreases-loop-r : goal.decreases-loop-r
+decreases-loop-r l = length l.b - l.r.cursor.end

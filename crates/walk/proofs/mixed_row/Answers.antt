@@ -1,9 +1,11 @@
+use mathlib.Core.Path.{◌∙◌}
 use native.Mathlib.Omega.{arith}
+use borrow.Author.Tests.{lt-ltb}
 use Rattle.walk.proofs.PixelLaws.{mixed_other, mixed_plain}
 use Rattle.walk.proofs.mixed_row.Goals as goal
 
-pub returns-then-k-w : goal.returns-then-k-w
-returns-then-k-w c = mixed_other (omega arith) c.first_other-k.ensures (omega arith)
+pub returns-then-first_other-w : goal.returns-then-first_other-w
+returns-then-first_other-w c = lt-ltb _ _ c.if-first_other-w.true ∙ mixed_other (omega arith) c.first_other.ensures (omega arith)
 
-pub returns : goal.returns
-returns c = mixed_plain (omega arith) (omega arith) c.first_other-k.ensures (omega arith)
+pub returns-else-first_other-w : goal.returns-else-first_other-w
+returns-else-first_other-w c = mixed_plain (omega arith) (omega arith) c.first_other.ensures (omega arith)
