@@ -16,6 +16,7 @@ use Rattle.format.proofs.FieldLaws.{bytes_drop}
 use Rattle.format.proofs.PixelLaws.{pixels_draw, draws_size}
 use Rattle.std.specs.declared.result.Result.TheVariants.{Ok, Err}
 use Rattle.refusals.specs.Names.{coded}
+use Rattle.refusals.specs.Answers.{numbers}
 use Rattle.refusals.specs.declared.Refused.{Refused}
 use Rattle.packet.specs.Outlines.{outline_of}
 use Rattle.packet.specs.Standing.{StandsAt, raster_of, Drawable}
@@ -69,7 +70,7 @@ module _ (font : List ℕ) (b : Bytes font) (at : ℕ) (x : Outline) (t : Drawab
     -- The buffer is too short.
     pub no_room_lem : (r : Refused) → length buffer < x.w * x.h → (r.refusal ≡ coded no_room) × (r.place ≡ 0)
         → in_numbers (Err r) ≡ told (answers (λ a. a.0) (answer_at 0 (drawn (length buffer) p)))
-    unfolding in_numbers told answers answer_at
+    unfolding numbers told answers answer_at
     no_room_lem r l q = rw (short l, q.0, q.1) refl
 
     pub untouched : length buffer < x.w * x.h → buffer ≡ lent (λ a. a.1) (answer_at 0 (drawn (length buffer) p)) buffer
@@ -78,7 +79,7 @@ module _ (font : List ℕ) (b : Bytes font) (at : ℕ) (x : Outline) (t : Drawab
 
     -- The measures, and the pixels.
     pub measured : (m : Measures) → x.w * x.h ≤ length buffer → said m ≡ measures p → in_numbers (Ok m) ≡ told (answers (λ a. a.0) (answer_at 0 (drawn (length buffer) p)))
-    unfolding in_numbers told answers answer_at
+    unfolding numbers told answers answer_at
     measured m l q = rw (fitting l) (ap says q)
 
     pub drawn_in : (after : List ℕ) → x.w * x.h ≤ length buffer → after ≡ raster_pixels x.f x.black x.w x.h (raster_of font x) ++ drop (x.w * x.h) buffer
