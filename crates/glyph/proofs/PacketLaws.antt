@@ -14,7 +14,10 @@ use Rattle.format.specs.Drawing.{raster_pixels, pixels_of, drawn}
 use Rattle.format.proofs.OnwardLaws.{raster_bytes}
 use Rattle.format.proofs.FieldLaws.{bytes_drop}
 use Rattle.format.proofs.PixelLaws.{pixels_draw, draws_size}
+use Rattle.std.specs.declared.result.Result.TheVariants.{Ok, Err}
 use Rattle.refusals.specs.Names.{coded}
+use Rattle.refusals.specs.Answers.{numbers}
+use Rattle.refusals.specs.declared.Refused.{Refused}
 use Rattle.packet.specs.Outlines.{outline_of}
 use Rattle.packet.specs.Standing.{StandsAt, raster_of, Drawable}
 use Rattle.packet.specs.declared.Outline.{Outline}
@@ -22,7 +25,6 @@ use Rattle.packet.proofs.StandingLaws.{stands_is, stands_raster}
 use Rattle.measures.specs.Said.{said}
 use Rattle.measures.specs.declared.Measures.{Measures}
 use Rattle.glyph.specs.Answer.{in_numbers}
-use Rattle.glyph.specs.declared.Drawn.TheVariants.{Measured, Refused}
 
 module _ (font : List ℕ) (b : Bytes font) (at : ℕ) (x : Outline) (t : Drawable font at x) (p : Packet) (rest : List ℕ) (e : step (drop at font) ≡ ok (piece (packet p) rest)) where
   -- It is the packet that stands there,
@@ -66,17 +68,18 @@ module _ (font : List ℕ) (b : Bytes font) (at : ℕ) (x : Outline) (t : Drawab
     fitting l = rw (le-leb (p.w * p.h) (length buffer) (omega (arith, size_is))) refl
 
     -- The buffer is too short.
-    pub no_room_lem : length buffer < x.w * x.h → in_numbers (Refused (coded no_room) 0) ≡ told (answers (λ a. a.0) (answer_at 0 (drawn (length buffer) p)))
-    unfolding in_numbers told answers answer_at
-    no_room_lem l = rw (short l) refl
+    pub no_room_lem : (r : Refused) → length buffer < x.w * x.h → (r.refusal ≡ coded no_room) × (r.place ≡ 0)
+        → in_numbers (Err r) ≡ told (answers (λ a. a.0) (answer_at 0 (drawn (length buffer) p)))
+    unfolding numbers told answers answer_at
+    no_room_lem r l q = rw (short l, q.0, q.1) refl
 
     pub untouched : length buffer < x.w * x.h → buffer ≡ lent (λ a. a.1) (answer_at 0 (drawn (length buffer) p)) buffer
     unfolding lent answer_at
     untouched l = rw (short l) refl
 
     -- The measures, and the pixels.
-    pub measured : (m : Measures) → x.w * x.h ≤ length buffer → said m ≡ measures p → in_numbers (Measured m) ≡ told (answers (λ a. a.0) (answer_at 0 (drawn (length buffer) p)))
-    unfolding in_numbers told answers answer_at
+    pub measured : (m : Measures) → x.w * x.h ≤ length buffer → said m ≡ measures p → in_numbers (Ok m) ≡ told (answers (λ a. a.0) (answer_at 0 (drawn (length buffer) p)))
+    unfolding numbers told answers answer_at
     measured m l q = rw (fitting l) (ap says q)
 
     pub drawn_in : (after : List ℕ) → x.w * x.h ≤ length buffer → after ≡ raster_pixels x.f x.black x.w x.h (raster_of font x) ++ drop (x.w * x.h) buffer

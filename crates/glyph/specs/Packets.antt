@@ -5,10 +5,12 @@ use Rattle.format.specs.Pieces.{Packet, packet}
 use Rattle.format.specs.Verdict.{piece, step}
 use Rattle.format.specs.Drawing.{drawn}
 use Rattle.glyph.specs.Answer.{in_numbers}
-use Rattle.glyph.specs.declared.Drawn.{Drawn}
+use Rattle.refusals.specs.declared.Refused.{Refused}
+use Rattle.measures.specs.declared.Measures.{Measures}
+use Rattle.std.specs.declared.result.Result.{Result}
 
 -- The answer for the packet that stands there,
-abbrev pub IsDrawn : List ℕ → ℕ → List ℕ → Drawn → Type 0
+abbrev pub IsDrawn : List ℕ → ℕ → List ℕ → Result Measures Refused → Type 0
 IsDrawn font at buffer r =
     (p : Packet) (rest : List ℕ) → step (drop at font) ≡ ok (piece (packet p) rest) → in_numbers r ≡ told (answers (λ t. t.0) (answer_at 0 (drawn (length buffer) p)))
 

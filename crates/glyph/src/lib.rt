@@ -6,26 +6,17 @@ ghost use Rattle.glyph.specs.Packets.{IsDrawn, IsPixels};
 
 use measures::Measures;
 use packet::Outline;
-use refusals::Refusal;
+use refusals::{Refusal, Refused};
 
-// The measures of a drawn character, or a refusal with its place.
-#[derive(Clone, Copy)]
-pub enum Drawn {
-    Measured(Measures),
-    Refused(Refusal, usize),
-}
-
-// The packet of an outline whose flag stands at `at`: 17, or its measures and pixels.
-pub fn draw_packet(font: &[u8], at: usize, x: Outline, buf: &mut [u8]) -> Drawn
+// The packet of an outline whose flag stands at `at`: its measures, with its pixels in the buffer; or 17, with the buffer as it was.
+pub fn draw_packet(font: &[u8], at: usize, x: Outline, buf: &mut [u8]) -> Result<Measures, Refused>
     requires { Drawable font.now at x }
     ensures drawn { IsDrawn font.now at buf.old result }
     ensures pixels { IsPixels font.now at buf.old buf.new }
 {
-    let begin = x.raster;
-    let end = x.end;
     if buf.len() < x.w * x.h {
-        return Drawn::Refused(Refusal::NO_ROOM, 0);
+        return Err(Refusal::NoRoom.at(0));
     }
-    raster::draw_raster(&font[begin..end], x.f, x.black, x.w, x.h, buf);
-    Drawn::Measured(measures::measures_at(font, at, x))
+    raster::draw_raster(&font[x.raster..x.end], x.f, x.black, x.w, x.h, buf);
+    Ok(measures::measures_at(font, at, x))
 }
