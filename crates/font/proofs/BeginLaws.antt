@@ -7,7 +7,7 @@ use lib.ListN.{length, take, drop, get_or}
 use lib.Seq.{drop-drop}
 use borrow.Author.Tests.{lt-ltb, le-ltb, eq-eqb, ne_eqb}
 use Rattle.format.specs.Limits.{most}
-use Rattle.format.specs.Refusals.{too_long, no_preamble, wrong_id, file_ends, Answer, gives, refused, told, answers}
+use Rattle.format.specs.Refusals.{too_long, no_preamble, wrong_id, file_ends, told, answers}
 use Rattle.format.specs.Numbers.{Bytes}
 use Rattle.format.specs.Pieces.{preamble_kinds}
 use Rattle.format.specs.Cut.{chars}
@@ -92,4 +92,4 @@ check_begin s r l e = e ∙ rw (le-ltb most (length s) l) refl
 -- In 01's numbers.
 
 pub numbers_told : (s : List ℕ) (r : Result ℕ Refused) → Bytes s → r ≡ to_result (check s) → in_numbers r ≡ told (check s)
-numbers_told s r b e = ap in_numbers e ∙ result_told (check s) (λ x place q. place_given s x place (check_means s x place b q))
+numbers_told s r b e = ap in_numbers e ∙ result_told (check s) (λ x place q. sym (ap (λ (t : ℕ × ℕ). t.1) (place_given s x place (check_means s x place b q))))

@@ -1,14 +1,13 @@
 -- Laws of the ending, one for each answer. Assumes nothing.
-use Prim.Native.Nat.{ℕ, ◌+◌, ◌%◌, ◌≤◌, ◌<◌}
+use Prim.Native.Nat.{ℕ, ◌+◌, ◌-◌, ◌%◌, ◌<◌}
 use mathlib.Core.Path.{◌≡◌, refl, sym, ap, ◌∙◌}
 use mathlib.Core.Bool.{Bool, true, false, ◌&&◌}
 use mathlib.Core.Logic.{inr}
 use mathlib.Core.List.{List, [], ◌∷◌}
-use native.Mathlib.Numerals.{add-one}
 use native.Mathlib.Omega.{arith}
 use lib.Dec.{eqb}
-use lib.ListN.{length, drop, get_or, length-drop, drop_of_length-le}
-use lib.Seq.{drop-cons}
+use lib.ListN.{length, take, drop, length-drop}
+use Rattle.std.proofs.Math.Seq.{take-length}
 use borrow.Author.Tests.{eq-eqb, ne_eqb}
 use Rattle.format.specs.Lists.{all}
 use Rattle.format.specs.Refusals.{bad_ending, no_packet, answers}
@@ -25,6 +24,10 @@ pub list_all_is : (c : ℕ) (xs : List ℕ) → list_all (λ (x : ℕ). nat_eq x
 unfolding all
 list_all_is c [] = refl
 list_all_is c (x ∷ xs) = ap (λ (t : Bool). nat_eq x c && t) (list_all_is c xs)
+
+-- The bytes from n on, as a slice has them.
+pub from_there : (s : List ℕ) (n : ℕ) → take (length s - n) (drop n s) ≡ drop n s
+from_there s n = ap (λ (k : ℕ). take k (drop n s)) (sym (length-drop n s)) ∙ take-length (drop n s)
 
 -- The answers.
 

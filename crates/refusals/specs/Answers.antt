@@ -3,12 +3,12 @@ use Rattle.std.specs.Prelude.{ℕ, Ok, Err}
 use Rattle.std.specs.declared.result.Result.{Result}
 use Rattle.format.specs.Refusals as F
 use Rattle.format.specs.Refusals.{Answer, gives, refused, Told, says, refuses}
-use Rattle.refusals.specs.Names.{number_of, coded}
+use Rattle.refusals.specs.Names.{number_of, coded, placed}
 use Rattle.refusals.specs.declared.Refused.{Refused}
 
 -- A row at a place.
 abbrev pub refused_at : F.Refusal → ℕ → Refused
-refused_at x place = record { refusal = coded x; place = place }
+refused_at x place = placed (coded x) place
 
 -- The call's answer for one of the definitions.
 unfoldable pub to_result : {A : Type 0} → Answer A → Result A Refused

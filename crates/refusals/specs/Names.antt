@@ -2,6 +2,7 @@
 use Rattle.std.specs.Prelude.{ℕ}
 use Rattle.format.specs.Refusals as F
 use Rattle.refusals.specs.declared.Refusal.{Refusal}
+use Rattle.refusals.specs.declared.Refused.{Refused}
 use Rattle.refusals.specs.declared.Refusal.TheVariants.{TooLong, NoPreamble, WrongId, FileEnds, NoPiece, BadLength, OutsideLimits, BadCode, CodeTwice, RasterEnds, TooMany, SecondRepeat, LeftOver, BadEnding, NoPacket, NoSuchCode, NoRoom, BitmapOutsideLimits, BadBitmap, NoForm}
 
 -- The row of a name.
@@ -53,3 +54,7 @@ coded F.no_room = NoRoom
 coded F.bitmap_outside_limits = BitmapOutsideLimits
 coded F.bad_bitmap = BadBitmap
 coded F.no_form = NoForm
+
+-- A refusal with its place.
+abbrev pub placed : Refusal → ℕ → Refused
+placed x place = record { refusal = x; place = place }

@@ -1,8 +1,8 @@
 // The refusals of 01's table, by name, and a refusal with its place.
 #![tactic(auto)]
 
-ghost use Rattle.std.specs.Prelude.{◌≡◌, ◌+◌};
-ghost use Rattle.refusals.specs.Names.{number_of};
+ghost use Rattle.std.specs.Prelude.{◌≡◌};
+ghost use Rattle.refusals.specs.Names.{number_of, placed};
 
 use std::error::Error;
 use std::fmt;
@@ -63,7 +63,7 @@ impl Refusal {
 
     /// The refusal of a call, with the start of the piece at fault, or 0.
     pub fn at(self, place: usize) -> Refused
-        ensures { (result.refusal ≡ self) × (result.place ≡ place) }
+        ensures { result ≡ placed self place }
     {
         Refused {
             refusal: self,

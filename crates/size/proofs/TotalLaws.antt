@@ -3,8 +3,13 @@ use Prim.Native.Nat.{ℕ, zero, suc, ◌+◌, ◌*◌, ◌≤◌, ◌<◌}
 use mathlib.Core.Path.{◌≡◌, refl, ap, ◌∙◌}
 use mathlib.Core.List.{List, [], ◌∷◌, ◌++◌}
 use native.Mathlib.Omega.{arith}
-use lib.ListN.{length, get_or, set, length-set, replicate}
-use lib.Seq.{get_or-set_same, get_or-set_other}
+use mathlib.Core.Bool.{Bool, false, true}
+use native.Mathlib.Nat.{lt_of_not-le}
+use lib.ListN.{length, get_or, set, take, length-set, replicate}
+use lib.Seq.{get_or-set_same, get_or-set_other, get_or-take}
+use Rattle.std.specs.Prelude.{IsTrue, ◌↔◌}
+use Rattle.std.specs.List.{All}
+use Rattle.std.proofs.lemmas.List.{take_more, length-take}
 use borrow.Author.Count.{below_more}
 use Rattle.format.specs.Packed.{encode}
 use Rattle.format.specs.Rasters.{Item, run}
@@ -14,43 +19,46 @@ use Rattle.walk.specs.declared.Cursor.{Cursor}
 use Rattle.walk.specs.Walk.{items_left, begin}
 use Rattle.walk.proofs.RunLaws.{at_most}
 use Rattle.part.specs.declared.Part.{Part}
-use Rattle.part.specs.Parts.{kept, Runs, Kept}
-use Rattle.part.proofs.KeptLaws.{kept_more}
-use Rattle.size.specs.Sizes.{short_nybbles, digit_nybbles, Totals, Grown, Sized}
+use Rattle.part.specs.declared.Run.{Run}
+use Rattle.part.specs.Parts.{kept, taken, Small, Kept}
+use Rattle.part.proofs.KeptLaws.{kept-append, kept_one}
+use Rattle.size.specs.Sizes.{short_nybbles, digit_nybbles, Totals, More, Added, Grown, Sizes}
 use Rattle.size.proofs.LengthLaws.{short_few, encode_length, encode_short, count_nil, repeat_one, repeat_more, repeat_few, run_behind, run_first, count-append, run_few}
 
 -- Nybbles more.
 
--- The totals below f have grown by what g says, the others not yet.
-pub record Half (t : List ℕ) (g : ℕ → ℕ) (r : List ℕ) (f : ℕ) : Type 0 where
+-- The totals below f have grown by what P says, the others not yet.
+pub record Half (t : List ℕ) (P : ℕ → ℕ → Type 0) (r : List ℕ) (f : ℕ) : Type 0 where
   pub long : length r ≡ 14
-  pub inside : f ≤ 14
-  pub done : (j : ℕ) → j < f → get_or r j 0 ≡ get_or t j 0 + g j
+  pub done : (j : ℕ) → j < f → More t P r j
   pub rest : (j : ℕ) → f ≤ j → get_or r j 0 ≡ get_or t j 0
 
 -- None has grown.
-pub half_start : (t : List ℕ) (g : ℕ → ℕ) → length t ≡ 14 → Half t g t 0
-half_start t g l = record { long = l; inside = omega arith; done = λ j h. absurd (omega arith); rest = λ j h. refl }
+pub half_start : (t : List ℕ) (P : ℕ → ℕ → Type 0) → length t ≡ 14 → Half t P t 0
+half_start t P l = record { long = l; done = λ j h. absurd (omega arith); rest = λ j h. refl }
 
 -- The total for f grows.
-pub half_more : {t : List ℕ} {g : ℕ → ℕ} {r : List ℕ} {f : ℕ} (v : ℕ) → Half t g r f → f < 14 → v ≡ get_or r f 0 + g f → Half t g (set r f v) (f + 1)
-half_more {t} {g} {r} {f} v h i q =
+pub half_more : {t : List ℕ} {P : ℕ → ℕ → Type 0} {r : List ℕ} {f : ℕ} (v k : ℕ) → Half t P r f → f < 14 → P f k → v ≡ get_or r f 0 + k → Half t P (set r f v) (f + 1)
+half_more {t} {P} {r} {f} v k h i p q =
     let s : get_or (set r f v) f 0 ≡ v = get_or-set_same r f v 0 (omega (arith, h.long)) in
     record {
       long = length-set r f v ∙ h.long;
-      inside = omega arith;
-      done = below_more (λ (j : ℕ). get_or (set r f v) j 0 ≡ get_or t j 0 + g j) f
-          (λ j p. get_or-set_other r f j v 0 (λ z. omega arith) ∙ h.done j p)
-          (omega (arith, h.rest f (omega arith)));
-      rest = λ j p. get_or-set_other r f j v 0 (λ z. omega arith) ∙ h.rest j (omega arith);
+      done = below_more (More t P (set r f v)) f
+          (λ j l. let m = h.done j l in record { more = m.more; says = m.says; is = get_or-set_other r f j v 0 (λ z. omega arith) ∙ m.is })
+          (record { more = k; says = p; is = omega (arith, h.rest f (omega arith)) });
+      rest = λ j l. get_or-set_other r f j v 0 (λ z. omega arith) ∙ h.rest j (omega arith);
     }
 
 -- All fourteen have grown.
-pub half_end : {t : List ℕ} {g : ℕ → ℕ} {r : List ℕ} {f : ℕ} → Half t g r f → 14 ≤ f → Grown t g r
-half_end h l = record { long = h.long; is = λ j i. h.done j (omega arith) }
+pub half_end : {t : List ℕ} {P : ℕ → ℕ → Type 0} {r : List ℕ} {f : ℕ} → Half t P r f → 14 ≤ f → Added t P r
+half_end h l = record { long = h.long; each = λ j i. h.done j (omega arith) }
+
+-- Each has grown by as much as g says.
+pub added_grown : {t : List ℕ} {P : ℕ → ℕ → Type 0} {r : List ℕ} (g : ℕ → ℕ) → Added t P r → ((f n : ℕ) → f < 14 → P f n → n ≡ g f) → Grown t g r
+added_grown g a e = record { long = a.long; is = λ f l. let m = a.each f l in omega (arith, m.is, e f m.more l m.says) }
 
 -- A total that has not grown yet is small.
-pub half_small : {n : ℕ} {t : List ℕ} {g : ℕ → ℕ} {r : List ℕ} {f : ℕ} → Half t g r f → Totals n t → f < 14 → get_or r f 0 ≤ n
+pub half_small : {n : ℕ} {t : List ℕ} {P : ℕ → ℕ → Type 0} {r : List ℕ} {f : ℕ} → Half t P r f → Totals n t → f < 14 → get_or r f 0 ≤ n
 half_small {f} h a l = omega (arith, h.rest f (omega arith), a.small f l)
 
 -- Small totals are within a larger bound, and so are those that grow by little.
@@ -106,84 +114,95 @@ module _ (m : ℕ) {t s : List ℕ} (d : Grown t (nybble_count (before m [])) s)
 -- A part.
 
 -- No run of a part is taken.
-pub part_none : (t ls rs : List ℕ) → length t ≡ 14 → Grown t (nybble_count (kept 0 ls rs)) t
+pub part_none : (t : List ℕ) (rs : List Run) → length t ≡ 14 → Grown t (nybble_count (kept (take 0 rs))) t
 unfolding kept
-part_none t ls rs l = record { long = l; is = λ f h. omega (arith, count_nil f) }
+part_none t rs l = record { long = l; is = λ f h. omega (arith, count_nil f) }
 
 -- The nybbles of the runs kept, and how many they are at most.
-count_kept : (f i : ℕ) (ls rs : List ℕ) → nybble_count (kept (i + 1) ls rs) f ≡ nybble_count (kept i ls rs) f + nybble_count (before (get_or rs i 0) (run (get_or ls i 0) ∷ [])) f
-count_kept f i ls rs = ap (λ (is : List Item). nybble_count is f) (kept_more i ls rs) ∙ count-append f (kept i ls rs) (before (get_or rs i 0) (run (get_or ls i 0) ∷ []))
+count_kept : (f i : ℕ) (rs : List Run) (d : Run) → i < length rs → nybble_count (kept (take (i + 1) rs)) f ≡ nybble_count (kept (take i rs)) f + nybble_count (before (get_or rs i d).repeat (run (get_or rs i d).length ∷ [])) f
+count_kept f i rs d h =
+    ap (λ (xs : List Run). nybble_count (kept xs) f) (take_more rs i d h)
+    ∙ ap (λ (is : List Item). nybble_count is f) (kept-append (take i rs) (get_or rs i d ∷ []) ∙ ap (λ (is : List Item). kept (take i rs) ++ is) (kept_one (get_or rs i d)))
+    ∙ count-append f (kept (take i rs)) (before (get_or rs i d).repeat (run (get_or rs i d).length ∷ []))
 
-kept_few : {n : ℕ} {ls rs : List ℕ} (f i : ℕ) → Runs n ls rs → f ≤ 13 → i ≤ n → nybble_count (kept i ls rs) f ≤ 19 * i
+kept_few : (f : ℕ) (rs : List Run) → All Small rs → f ≤ 13 → nybble_count (kept rs) f ≤ 19 * length rs
 unfolding kept
-kept_few f zero g h l = omega (arith, count_nil f)
-kept_few {n} {ls} {rs} f (suc i) g h l =
-    omega (arith, count-append f (kept i ls rs) (before (get_or rs i 0) (run (get_or ls i 0) ∷ [])), kept_few f i g h (omega arith), run_few f (get_or ls i 0) (get_or rs i 0) h (g.many i (omega arith)) (g.few i (omega arith)))
+kept_few f [] g h = omega (arith, count_nil f)
+kept_few f (r ∷ rs) g h =
+    let s = g 0 r (omega arith) in
+    omega (arith, count-append f (before r.repeat (run r.length ∷ [])) (kept rs), kept_few f rs (λ k d l. g (suc k) d (omega arith)) h, run_few f r.length r.repeat h s.many s.few)
 
-module _ {n i : ℕ} {t u ls rs : List ℕ} (d : Grown t (nybble_count (kept i ls rs)) u) (g : Runs n ls rs) (l : i < n) where
+-- The first of some runs are small.
+small_taken : (i : ℕ) (rs : List Run) → All Small rs → All Small (take i rs)
+small_taken i rs g k d h = rw (get_or-take i rs k d (omega (arith, length-take i rs))) (g k d (omega (arith, length-take i rs)))
+
+module _ {i : ℕ} {t u : List ℕ} (rs : List Run) (e : Grown t (nybble_count (kept (take i rs))) u) (g : All Small rs) (l : i < length rs) where
   -- What one run more asks.
-  pub part_asks : Totals 1500000 t → n ≤ 512 → Totals 2000000 u × (get_or ls i 0 ≤ 65536) × (get_or rs i 0 ≤ 65536)
-  part_asks a m = (record { long = d.long; small = λ f h. omega (arith, a.small f h, d.is f h, kept_few f i g (omega arith) (omega arith)) }, g.many i l, g.few i l)
+  pub part_asks : (d : Run) → Totals 1500000 t → length rs ≤ 512 → Totals 2000000 u × ((get_or rs i d).length ≤ 65536) × ((get_or rs i d).repeat ≤ 65536)
+  part_asks d a m =
+      let s = g i d l in
+      (record { long = e.long; small = λ f h. omega (arith, a.small f h, e.is f h, kept_few f (take i rs) (small_taken i rs g) (omega arith), length-take i rs) }, s.many, s.few)
 
   -- It is taken.
-  pub part_more : {v : List ℕ} → Grown u (nybble_count (before (get_or rs i 0) (run (get_or ls i 0) ∷ []))) v → Grown t (nybble_count (kept (i + 1) ls rs)) v
-  part_more e = grown_twice (nybble_count (kept (i + 1) ls rs)) d e (λ f h. count_kept f i ls rs)
+  pub part_more : (d : Run) {v : List ℕ} → Grown u (nybble_count (before (get_or rs i d).repeat (run (get_or rs i d).length ∷ []))) v → Grown t (nybble_count (kept (take (i + 1) rs))) v
+  part_more d n = grown_twice (nybble_count (kept (take (i + 1) rs))) e n (λ f h. count_kept f i rs d l)
 
 -- Part after part.
 
--- What the totals have, and what is left where the part p begins, make the sizes of the count list. If the first part is the whole list, it is this one.
-pub record Summed (b : List ℕ) (w : ℕ) (first : Part) (t ls rs : List ℕ) (p : Part) : Type 0 where
+-- What the totals have, and what is left where the part p begins, make the sizes of the count list. If it is of one part, it is this one.
+pub record Summed (b : List ℕ) (w : ℕ) (several : Bool) (t : List ℕ) (p : Part) : Type 0 where
   pub from : Cursor
-  pub part : Kept b w from ls rs p
+  pub part : Kept b w from p
   pub long : length t ≡ 14
   pub sum : (f : ℕ) → f < 14 → get_or t f 0 + nybble_count (items_left b w from) f ≡ nybble_count (items_left b w begin) f
   pub small : (f : ℕ) → f < 14 → get_or t f 0 ≤ 19 * from.at
-  pub whole : first.n < 512 → (p.n < 512) × Kept b w begin ls rs first
+  pub whole : several ≡ false → (p.n < 512) × Kept b w begin p
 
 zeros : (n f : ℕ) → get_or {A = ℕ} (replicate n 0) f 0 ≡ 0
 zeros zero f = refl
 zeros (suc n) zero = refl
 zeros (suc n) (suc f) = zeros n f
 
+-- A part that is not full has room.
+pub not_full : {full : Bool} {n : ℕ} → (IsTrue full ↔ (512 ≤ n)) → full ≡ false → n < 512
+not_full {full} e h = lt_of_not-le (λ l. let x : full ≡ true = e.1 l in cc)
+
 -- Before the first part.
-pub sum_start : {b : List ℕ} {w : ℕ} {ls rs : List ℕ} {p : Part} → Kept b w begin ls rs p → Summed b w p (replicate 14 0) ls rs p
-sum_start g = record {
+pub sum_start : {b : List ℕ} {w : ℕ} (p : Part) {several : Bool} → Kept b w begin p → (IsTrue several ↔ (512 ≤ p.n)) → Summed b w several (replicate 14 0) p
+sum_start p g e = record {
   from = begin;
   part = g;
   long = refl;
   sum = λ f i. omega (arith, zeros 14 f);
   small = λ f i. omega (arith, zeros 14 f);
-  whole = λ h. (h, g);
+  whole = λ h. (not_full e h, g);
 }
 
-module _ {b : List ℕ} {w : ℕ} {first : Part} {t ls rs : List ℕ} {p : Part} (s : Summed b w first t ls rs p) where
+module _ {b : List ℕ} {w : ℕ} {several : Bool} {t : List ℕ} (p : Part) (s : Summed b w several t p) where
   -- The place where the part begins, and what a part asks.
   from_most : s.from.at + p.n ≤ 65536
   from_most = let i = s.part.walked.inside in omega (arith, s.part.walked.further, at_most i, i.small)
 
-  pub sum_asks : Totals 1500000 t × (p.n ≤ 512) × Runs p.n ls rs
-  sum_asks = (record { long = s.long; small = λ f h. omega (arith, s.small f h, from_most) }, s.part.walked.most, s.part.walked.runs)
+  pub sum_asks : length p.runs ≡ 512 → Totals 1500000 t × (length (taken p) ≤ 512) × All Small (taken p)
+  sum_asks l = (record { long = s.long; small = λ f h. omega (arith, s.small f h, from_most) }, omega (arith, length-take p.n p.runs), s.part.walked.runs)
 
-  module _ {u : List ℕ} (a : Grown t (nybble_count (kept p.n ls rs)) u) where
+  module _ {u : List ℕ} (a : Grown t (nybble_count (kept (taken p))) u) where
     -- The part is taken: what is left is left behind it.
-    taken : (f : ℕ) → f < 14 → get_or u f 0 + nybble_count (items_left b w p.cursor) f ≡ nybble_count (items_left b w begin) f
-    taken f h =
-        let e : nybble_count (items_left b w s.from) f ≡ nybble_count (kept p.n ls rs ++ items_left b w p.cursor) f = ap (λ (is : List Item). nybble_count is f) s.part.walked.items in
-        omega (arith, s.sum f h, a.is f h, e, count-append f (kept p.n ls rs) (items_left b w p.cursor))
+    counted_on : (f : ℕ) → f < 14 → get_or u f 0 + nybble_count (items_left b w p.cursor) f ≡ nybble_count (items_left b w begin) f
+    counted_on f h =
+        let e : nybble_count (items_left b w s.from) f ≡ nybble_count (kept (taken p) ++ items_left b w p.cursor) f = ap (λ (is : List Item). nybble_count is f) s.part.walked.items in
+        omega (arith, s.sum f h, a.is f h, e, count-append f (kept (taken p)) (items_left b w p.cursor))
 
     few : (f : ℕ) → f < 14 → get_or u f 0 ≤ 19 * p.cursor.at
-    few f h = omega (arith, s.small f h, a.is f h, kept_few f p.n s.part.walked.runs (omega arith) (omega arith), s.part.walked.further)
+    few f h = omega (arith, s.small f h, a.is f h, kept_few f (taken p) s.part.walked.runs (omega arith), length-take p.n p.runs, s.part.walked.further)
 
     -- The next part.
-    pub sum_more : {ks ms : List ℕ} {q : Part} → 512 ≤ p.n → Kept b w p.cursor ks ms q → Summed b w first u ks ms q
-    sum_more l g = record { from = p.cursor; part = g; long = a.long; sum = taken; small = few; whole = λ h. absurd (omega (arith, (s.whole h).0)) }
+    pub sum_more : (q : Part) → 512 ≤ p.n → Kept b w p.cursor q → Summed b w several u q
+    sum_more q l g = record { from = p.cursor; part = g; long = a.long; sum = counted_on; small = few; whole = λ h. absurd (omega (arith, (s.whole h).0)) }
 
     -- No run is left.
-    pub sum_end : p.n < 512 → Sized b w first u ls rs
-    sum_end l = record {
-      sizes = λ f h.
-          let z : nybble_count (items_left b w p.cursor) f ≡ nybble_count [] f = ap (λ (js : List Item). nybble_count js f) (s.part.over l) in
-          let i = s.part.walked.inside in
-          (omega (arith, taken f h, z, count_nil f), omega (arith, few f h, at_most i, i.small));
-      first = record { room = s.part.walked.runs.room; whole = λ h. (s.whole h).1 };
-    }
+    pub sum_end : p.n < 512 → Sizes (items_left b w begin) u
+    sum_end l f h =
+        let z : nybble_count (items_left b w p.cursor) f ≡ nybble_count [] f = ap (λ (js : List Item). nybble_count js f) (s.part.over l) in
+        let i = s.part.walked.inside in
+        (omega (arith, counted_on f h, z, count_nil f), omega (arith, few f h, at_most i, i.small))

@@ -31,6 +31,17 @@ pub record Totals (n : ℕ) (t : List ℕ) : Type 0 where
   pub long : length t ≡ 14
   pub small : (f : ℕ) → f < 14 → get_or t f 0 ≤ n
 
+-- The total for f is as much more as P says.
+pub record More (t : List ℕ) (P : ℕ → ℕ → Type 0) (r : List ℕ) (f : ℕ) : Type 0 where
+  pub more : ℕ
+  pub says : P f more
+  pub is : get_or r f 0 ≡ get_or t f 0 + more
+
+-- The totals r are the totals t, each with as much more as P says.
+pub record Added (t : List ℕ) (P : ℕ → ℕ → Type 0) (r : List ℕ) : Type 0 where
+  pub long : length r ≡ 14
+  pub each : (f : ℕ) → f < 14 → More t P r f
+
 -- The totals r are the totals t, each with as many nybbles more as g says.
 pub record Grown (t : List ℕ) (g : ℕ → ℕ) (r : List ℕ) : Type 0 where
   pub long : length r ≡ 14
@@ -40,10 +51,10 @@ pub record Grown (t : List ℕ) (g : ℕ → ℕ) (r : List ℕ) : Type 0 where
 abbrev pub Sizes : List Item → List ℕ → Type 0
 Sizes is r = (f : ℕ) → f < 14 → (get_or r f 0 ≡ nybble_count is f) × (get_or r f 0 ≤ 2000000)
 
--- The totals r are the sizes of the count list; if the first part p is the whole list, the arrays hold it still.
-pub record Sized (b : List ℕ) (w : ℕ) (p : Part) (r lengths repeats : List ℕ) : Type 0 where
+-- The totals r are the sizes of the count list; if the part p has room for more, it is the whole list.
+pub record Sized (b : List ℕ) (w : ℕ) (r : List ℕ) (p : Part) : Type 0 where
   pub sizes : Sizes (items_left b w begin) r
-  pub first : First b w p lengths repeats
+  pub first : First b w p
 
 -- best is the place of the least of the first n, the last of equal ones.
 pub record Best (t : List ℕ) (n best : ℕ) : Type 0 where

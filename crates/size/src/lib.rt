@@ -1,23 +1,22 @@
 // The size pass: the nybbles of a bitmap's count list for each f from 0 to 13, and the f that is chosen.
 #![tactic(auto)]
 
-ghost use Rattle.std.specs.Prelude.{◌+◌, ◌*◌, ◌≤◌, ◌<◌, ◌≡◌, ◌∷◌, [], length};
+ghost use Rattle.std.specs.Prelude.{ℕ, ◌+◌, ◌*◌, ◌≤◌, ◌<◌, ◌≡◌, ◌∷◌, [], All, length};
 ghost use Rattle.format.specs.Rasters.{run};
 ghost use Rattle.format.specs.Counts.{before};
 ghost use Rattle.format.specs.Packed.{limit, encode};
 ghost use Rattle.format.specs.Choice.{nybble_count};
 ghost use Rattle.walk.specs.Walk.{begin};
-ghost use Rattle.part.specs.Parts.{kept, Runs, Room, Kept, First};
-ghost use Rattle.size.specs.Sizes.{over, Few, short_nybbles, digit_nybbles, Totals, Grown, Sized, Best, IsChosen};
+ghost use Rattle.part.specs.Parts.{kept, Small, Kept, First};
+ghost use Rattle.size.specs.Sizes.{over, Few, short_nybbles, digit_nybbles, Totals, Added, Grown, Sized, Best, IsChosen};
 
-use part::Part;
+use part::{Part, Run};
 
-// The f that is chosen, the number of its raster bytes, and the first part of the count list.
+// The f that is chosen, and the number of its raster bytes.
 #[derive(Clone, Copy)]
 pub struct Chosen {
     pub f: usize,
     pub bytes: usize,
-    pub first: Part,
 }
 
 // 1 if n is above the most, else 0: a sum and a shift and no test, so that several are taken side by side. 131,072 is 2 to the 17th, above
@@ -63,32 +62,16 @@ fn digit_nybbles(f: u32, n: u32) -> u32
     2 * (above(most + 240, n) + above(most + 4080, n) + above(most + 65520, n))
 }
 
-// The nybbles of n up to the third in the fourteen totals. No loop over them has a branch. (A total of a whole count list is at most
+// As many nybbles as a closure says for each f, in the fourteen totals. The loop has no branch. (A total of a whole count list is at most
 // 2,000,000; the bounds here leave room for what is added to it.)
-fn add_short(t: &mut [u32; 14], n: u32)
-    requires { (Totals 4000000 t.old) × (n ≤ 65536) }
-    ensures { Grown t.old (λ f. short_nybbles f n) t.new }
+fn add_each<F: Fn(u32) -> u32>(t: &mut [u32; 14], nybbles: F)
+    requires room { Totals 4000000 t.old }
+    requires can { (f : ℕ) → f < 14 → F.pre nybbles f }
+    requires few { (f n : ℕ) → f < 14 → F.post nybbles f n → n ≤ 10 }
+    ensures { Added t.old (F.post nybbles) t.new }
 {
-    let mut f: usize = 0;
-    while f < 14 {
-        let l = short_nybbles(f as u32, n);
-        let old = t[f];
-        t[f] = old + l;
-        f += 1;
-    }
-}
-
-// The nybbles of n from the fourth on in the fourteen totals.
-fn add_digits(t: &mut [u32; 14], n: u32)
-    requires { (Totals 4000000 t.old) × (n ≤ 65536) }
-    ensures { Grown t.old (λ f. digit_nybbles f n) t.new }
-{
-    let mut f: usize = 0;
-    while f < 14 {
-        let l = digit_nybbles(f as u32, n);
-        let old = t[f];
-        t[f] = old + l;
-        f += 1;
+    for (f, total) in t.iter_mut().enumerate() {
+        *total += nybbles(f as u32);
     }
 }
 
@@ -97,24 +80,11 @@ fn add_number(t: &mut [u32; 14], n: u32)
     requires { (Totals 3000000 t.old) × (n ≤ 65536) }
     ensures { Grown t.old (λ f. length (encode f n)) t.new }
 {
-    add_short(t, n);
+    add_each(t, |f| short_nybbles(f, n));
     if n < 254 {
         return;
     }
-    add_digits(t, n);
-}
-
-// A 14 or 15 in the fourteen totals.
-fn add_mark(t: &mut [u32; 14])
-    requires { Totals 4000000 t.old }
-    ensures { Grown t.old (λ f. 1) t.new }
-{
-    let mut f: usize = 0;
-    while f < 14 {
-        let old = t[f];
-        t[f] = old + 1;
-        f += 1;
-    }
+    add_each(t, |f| digit_nybbles(f, n));
 }
 
 // The repeat m in the fourteen totals.
@@ -122,58 +92,55 @@ fn add_repeat(t: &mut [u32; 14], m: u32)
     requires { (Totals 2000000 t.old) × (1 ≤ m) × (m ≤ 65536) }
     ensures { Grown t.old (nybble_count (before m [])) t.new }
 {
-    add_mark(t);
+    // A 14 or 15.
+    add_each(t, |_| 1);
     if m == 1 {
         return;
     }
     add_number(t, m);
 }
 
-// A run of k in the fourteen totals, with the repeat m before it, 0 for none.
-fn add_run(t: &mut [u32; 14], k: u32, m: u32)
-    requires { (Totals 2000000 t.old) × (k ≤ 65536) × (m ≤ 65536) }
-    ensures { Grown t.old (nybble_count (before m (run k ∷ []))) t.new }
+// A run in the fourteen totals, with the repeat before it.
+fn add_run(t: &mut [u32; 14], r: Run)
+    requires { (Totals 2000000 t.old) × (r.length ≤ 65536) × (r.repeat ≤ 65536) }
+    ensures { Grown t.old (nybble_count (before r.repeat (run r.length ∷ []))) t.new }
 {
-    if m == 0 {
-        add_number(t, k);
+    if r.repeat == 0 {
+        add_number(t, r.length);
         return;
     }
-    add_repeat(t, m);
-    add_number(t, k);
+    add_repeat(t, r.repeat);
+    add_number(t, r.length);
 }
 
-// The first n runs kept in the fourteen totals.
-fn add_part(t: &mut [u32; 14], n: usize, lengths: &[u32; 512], repeats: &[u32; 512])
-    requires { (Totals 1500000 t.old) × (n ≤ 512) × Runs n lengths.now repeats.now }
-    ensures { Grown t.old (nybble_count (kept n lengths.now repeats.now)) t.new }
+// The runs of a part in the fourteen totals.
+fn add_part(t: &mut [u32; 14], runs: &[Run])
+    requires { (Totals 1500000 t.old) × (length runs.now ≤ 512) × All Small runs.now }
+    ensures { Grown t.old (nybble_count (kept runs.now)) t.new }
 {
-    let mut i: usize = 0;
-    while i < n {
-        add_run(t, lengths[i], repeats[i]);
-        i += 1;
+    for r in runs {
+        add_run(t, *r);
     }
 }
 
 // All fourteen sizes, f = 0 first, from the first part on. Where the first is the whole list, it stays kept.
-pub fn sizes(
-    b: &[u8],
-    w: usize,
-    first: Part,
-    lengths: &mut [u32; 512],
-    repeats: &mut [u32; 512],
-) -> [u32; 14]
-    requires { Kept b.now w begin lengths.old repeats.old first }
-    ensures { Sized b.now w first result lengths.new repeats.new }
+pub fn sizes(b: &[u8], w: usize, part: &mut Part) -> [u32; 14]
+    requires { Kept b.now w begin part.old }
+    ensures { Sized b.now w result part.new }
 {
     let mut t = [0u32; 14];
-    let mut p = first;
+    let several = part.is_full();
     loop {
-        add_part(&mut t, p.n, lengths, repeats);
-        if p.n < 512 {
-            return t;
+        add_part(&mut t, part.runs());
+        if !part.is_full() {
+            break;
         }
-        p = part::part_from(b, w, p.cursor, lengths, repeats);
+        part.walk_on(b, w);
     }
+    if several {
+        part.forget();
+    }
+    t
 }
 
 // The place of the least, and of equal ones the last.
@@ -181,52 +148,31 @@ fn least_of(t: [u32; 14]) -> usize
     ensures { Best t 14 result }
 {
     let mut best: usize = 0;
-    let mut f: usize = 1;
-    while f < 14 {
+    for f in 1..14 {
         if t[f] <= t[best] {
             best = f;
         }
-        f += 1;
     }
     best
 }
 
 // The choice for a bitmap of w by h pixels, and the first part of its count list, if that is the whole list.
-pub fn choose(
-    b: &[u8],
-    w: usize,
-    h: usize,
-    lengths: &mut [u32; 512],
-    repeats: &mut [u32; 512],
-) -> Chosen
-    requires { (length b.now ≡ w * h) × (length b.now ≤ 65536) × Room lengths.old repeats.old }
+pub fn choose(b: &[u8], w: usize, h: usize, part: &mut Part) -> Chosen
+    requires { (length b.now ≡ w * h) × (length b.now ≤ 65536) }
     ensures chosen { IsChosen w h b.now result }
-    ensures first { First b.now w result.first lengths.new repeats.new }
+    ensures first { First b.now w part.new }
 {
-    let bits = (b.len() + 7) / 8;
-    let start = walk::start();
+    let bits = b.len().div_ceil(8);
     if w == 0 {
-        // A full part is not taken for the whole list: nothing is kept.
-        let first = Part {
-            n: 512,
-            cursor: start,
-        };
-        return Chosen {
-            f: 14,
-            bytes: bits,
-            first,
-        };
+        part.forget();
+        return Chosen { f: 14, bytes: bits };
     }
-    let first = part::part_from(b, w, start, lengths, repeats);
-    let t = sizes(b, w, first, lengths, repeats);
+    part.restart(b, w);
+    let t = sizes(b, w, part);
     let f = least_of(t);
-    let bytes = (t[f] as usize + 1) / 2;
+    let bytes = (t[f] as usize).div_ceil(2);
     if bits < bytes {
-        return Chosen {
-            f: 14,
-            bytes: bits,
-            first,
-        };
+        return Chosen { f: 14, bytes: bits };
     }
-    Chosen { f, bytes, first }
+    Chosen { f, bytes }
 }

@@ -7,7 +7,7 @@ pub returns-then-font-gt65536 : goal.returns-then-font-gt65536
 returns-then-font-gt65536 c =
     let s = c.args.font.now in
     let e = check_long s (omega arith) in
-    numbers_told s _ (bytes_of_lem s (λ i. omega (arith, c.type_inv.font i))) e
+    rw c.at.ensures (numbers_told s _ (bytes_of_lem s (λ i. omega (arith, c.type_inv.font i))) e)
 
 pub returns : goal.returns
 returns c =

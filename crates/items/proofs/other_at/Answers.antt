@@ -1,7 +1,7 @@
 use mathlib.Core.Path.{sym, ap, ◌∙◌}
 use native.Mathlib.Omega.{arith}
 use Rattle.std.proofs.lemmas.Result.{err_from_is_err_and}
-use Rattle.items.specs.Items.{as_run, as_repeat}
+use Rattle.items.specs.Items.{wanted, as_run, as_repeat}
 use Rattle.items.proofs.ItemLaws.{item_past, item_run, item_second, item_fifteen, item_fourteen}
 use Rattle.items.proofs.other_at.Goals as goal
 
@@ -24,6 +24,11 @@ returns-then-repeat-gt0 c =
 pub returns-then-x-eq15 : goal.returns-then-x-eq15
 returns-then-x-eq15 c =
     item_fifteen _ _ _ _ c.nybble-x.result c.nybble-x.ensures.is (omega arith) (omega arith) (omega arith)
+
+pub returns-in-Some : goal.returns-in-Some
+returns-in-Some c =
+    ap (λ r. as_repeat (wanted r)) (sym (c.short_at.ensures.some _ c.in-Some.is))
+    ∙ item_fourteen _ _ _ _ c.nybble-x.result c.nybble-x.ensures.is (omega arith) (omega arith) (λ e. omega arith) (omega arith)
 
 pub returns-in_err-number : goal.returns-in_err-number
 returns-in_err-number c =

@@ -3,7 +3,7 @@ use native.Mathlib.Omega.{arith}
 use Rattle.format.proofs.FieldLaws.{bytes_of_lem}
 use Rattle.std.proofs.lemmas.Result.{err_from_is_err_and}
 use Rattle.state.specs.Moves.{plain}
-use Rattle.judge.proofs.LeftLaws.{Left, left_start, left_within, left_turn, left_stop, left_end}
+use Rattle.judge.proofs.LeftLaws.{Left, left_start, left_turn, left_stop, left_end}
 use Rattle.judge.proofs.judge_runs.Goals as goal
 
 pub loop-state-init : goal.loop-state-init
@@ -11,9 +11,6 @@ loop-state-init c =
     let a = c.args in
     subst (λ x. Left a.s.now a.f.n a.w a.h 0 (plain x)) (sym c.start-state.ensures)
     (left_start _ _ _ _ (bytes_of_lem a.s.now (λ i. omega (arith, c.type_inv.s i))) (omega arith) (omega arith))
-
-pub turn_at-requires : goal.turn_at-requires
-turn_at-requires c = left_within c.loop-state.invariant (omega arith) (omega arith)
 
 pub loop-state-smaller : goal.loop-state-smaller
 loop-state-smaller c =

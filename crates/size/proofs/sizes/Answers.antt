@@ -1,22 +1,18 @@
+use Prim.Native.Nat.{◌<◌}
 use native.Mathlib.Omega.{arith}
-use Rattle.part.proofs.KeptLaws.{kept_less}
-use Rattle.size.proofs.TotalLaws.{sum_start, sum_asks, sum_more, sum_end}
+use Rattle.size.proofs.TotalLaws.{not_full, sum_more, sum_end}
 use Rattle.size.proofs.sizes.Goals as goal
 
-pub loop-p-init : goal.loop-p-init
-loop-p-init c = sum_start c.requires
+pub loop-part-preserved : goal.loop-part-preserved
+loop-part-preserved c = sum_more _ c.loop-part.invariant (rw c.runs.ensures at c.add_part.ensures) _ (c.is_full.ensures.0 c.if-not-is_full.false) c.walk_on.ensures
 
-pub add_part-requires : goal.add_part-requires
-add_part-requires c = sum_asks c.loop-p.invariant
+pub returns-then-several : goal.returns-then-several
+returns-then-several c = record {
+  sizes = sum_end _ c.loop-part.invariant (rw c.runs.ensures at c.add_part.ensures) (not_full c.is_full.ensures c.if-not-is_full.true);
+  first = record { whole = λ h. absurd (omega arith) };
+}
 
-pub returns-then-p-lt512 : goal.returns-then-p-lt512
-returns-then-p-lt512 c = sum_end c.loop-p.invariant c.add_part.ensures (omega arith)
-
-pub part_from-p-requires : goal.part_from-p-requires
-part_from-p-requires c = let g = c.loop-p.invariant.part.walked in (g.inside, g.runs.room)
-
-pub loop-p-smaller : goal.loop-p-smaller
-loop-p-smaller c = kept_less (omega arith) c.part_from-p.ensures
-
-pub loop-p-preserved : goal.loop-p-preserved
-loop-p-preserved c = sum_more c.loop-p.invariant c.add_part.ensures (omega arith) c.part_from-p.ensures
+pub returns-else-several : goal.returns-else-several
+returns-else-several c =
+    let l : c.loop-part.part.n < 512 = not_full c.is_full.ensures c.if-not-is_full.true in
+    record { sizes = sum_end _ c.loop-part.invariant (rw c.runs.ensures at c.add_part.ensures) l; first = record { whole = λ h. (c.loop-part.invariant.whole c.if-several.false).1 } }

@@ -3,8 +3,8 @@ use lib.ListN.{length}
 use Rattle.size.proofs.TotalLaws.{Summed}
 use Rattle.size.proofs.sizes.Given as goal
 
-abbrev pub invariant-loop-p : goal.invariant-loop-p
-invariant-loop-p l = Summed l.b l.w l.initial.p l.t l.lengths l.repeats l.p
+abbrev pub invariant-loop-part : goal.invariant-loop-part
+invariant-loop-part l = Summed l.b l.w l.several l.t l.part
 
-abbrev pub decreases-loop-p : goal.decreases-loop-p
-decreases-loop-p l = length l.b - l.p.cursor.at + l.p.n
+abbrev pub decreases-loop-part : goal.decreases-loop-part
+decreases-loop-part l = length l.b - l.part.cursor.at + l.part.n
