@@ -15,9 +15,7 @@ use Rattle.format.proofs.OnwardLaws.{raster_bytes}
 use Rattle.format.proofs.FieldLaws.{bytes_drop}
 use Rattle.format.proofs.PixelLaws.{pixels_draw, draws_size}
 use Rattle.std.specs.declared.result.Result.TheVariants.{Ok, Err}
-use Rattle.refusals.specs.Names.{coded}
-use Rattle.refusals.specs.Answers.{numbers}
-use Rattle.refusals.specs.declared.Refused.{Refused}
+use Rattle.refusals.specs.Answers.{refused_at, numbers}
 use Rattle.packet.specs.Outlines.{outline_of}
 use Rattle.packet.specs.Standing.{StandsAt, raster_of, Drawable}
 use Rattle.packet.specs.declared.Outline.{Outline}
@@ -68,10 +66,9 @@ module _ (font : List ℕ) (b : Bytes font) (at : ℕ) (x : Outline) (t : Drawab
     fitting l = rw (le-leb (p.w * p.h) (length buffer) (omega (arith, size_is))) refl
 
     -- The buffer is too short.
-    pub no_room_lem : (r : Refused) → length buffer < x.w * x.h → (r.refusal ≡ coded no_room) × (r.place ≡ 0)
-        → in_numbers (Err r) ≡ told (answers (λ a. a.0) (answer_at 0 (drawn (length buffer) p)))
+    pub no_room_lem : length buffer < x.w * x.h → in_numbers (Err (refused_at no_room 0)) ≡ told (answers (λ a. a.0) (answer_at 0 (drawn (length buffer) p)))
     unfolding numbers told answers answer_at
-    no_room_lem r l q = rw (short l, q.0, q.1) refl
+    no_room_lem l = rw (short l) refl
 
     pub untouched : length buffer < x.w * x.h → buffer ≡ lent (λ a. a.1) (answer_at 0 (drawn (length buffer) p)) buffer
     unfolding lent answer_at

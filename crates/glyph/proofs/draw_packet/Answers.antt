@@ -15,7 +15,7 @@ returns-then-buf-x c =
     let s = c.args.font.now in
     let b = bytes_fit s c.type_inv.font in
     record {
-      drawn = λ p rest e. no_room_lem s b _ _ c.requires p rest e c.args.buf.now _ (omega arith) c.at.ensures;
+      drawn = λ p rest e. rw c.at.ensures (no_room_lem s b _ _ c.requires p rest e c.args.buf.now (omega arith));
       pixels = λ p rest e. untouched s b _ _ c.requires p rest e c.args.buf.now (omega arith);
     }
 
