@@ -17,7 +17,7 @@ use Rattle.format.proofs.CutLaws.{one_cut}
 use Rattle.packet.specs.Outlines.{piece_of}
 use Rattle.packet.specs.declared.Piece.{Piece}
 use Rattle.packet.specs.declared.Piece.TheVariants.{Packet, Command, Last}
-use Rattle.find.specs.Places.{Accepted, found_among, found_in, IsFound}
+use Rattle.find.specs.Places.{Accepted, IsFirst, found_among, found_in, IsFound}
 use Rattle.find.proofs.RestLaws.{Rest, rest_start, preamble_third, Next, rest_next, rest_last}
 
 -- At a place of the font s, what is found in the pieces that are left is what is found in the font.
@@ -27,11 +27,14 @@ pub record Going (s : List ℕ) (code at : ℕ) : Type 0 where
   pub rest : Rest s at left pad
   pub same : IsFound s code (found_in code at left)
 
+-- The third byte of the font says where the preamble ends.
+pub first_is : (s : List ℕ) (k : ℕ) → k ≡ get_or s 2 0 → IsFirst s (k + 19)
+first_is s k e x c = ap (λ (i : ℕ). i + 19) e ∙ (preamble_third s x c).1
+
 -- Behind the preamble all pieces are left.
-pub going_start : (s : List ℕ) (code k at : ℕ) → Accepted s → k ≡ get_or s 2 0 → at ≡ k + 19 → Going s code at
-going_start s code k at (x, c) e f =
-    let n : length (preamble_bytes x.preamble) ≡ at = sym (preamble_third s x c).1 ∙ sym (f ∙ ap (λ (i : ℕ). i + 19) e) in
-    subst (Going s code) n
+pub going_start : (s : List ℕ) (code at : ℕ) → Accepted s → IsFirst s at → Going s code at
+going_start s code at (x, c) f =
+    subst (Going s code) (sym (f x c))
     (record {
       left = x.pieces;
       pad = x.pad;

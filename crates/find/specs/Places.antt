@@ -11,6 +11,10 @@ use Rattle.packet.specs.declared.Outline.{Outline}
 abbrev pub Accepted : List ℕ → Type 0
 Accepted s = (x : Parts) × Cut s x
 
+-- The place behind the preamble.
+abbrev pub IsFirst : List ℕ → ℕ → Type 0
+IsFirst s r = (x : Parts) → Cut s x → r ≡ length (preamble_bytes x.preamble)
+
 -- The place of a packet's flag and its outline; or that no packet has the code.
 abbrev pub Found : Type 0
 Found = Option (ℕ × Outline)

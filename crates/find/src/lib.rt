@@ -1,16 +1,24 @@
 // The packet of a code in an accepted font.
 #![tactic(auto)]
 
-ghost use Rattle.find.specs.Places.{Accepted, IsFound};
+ghost use Rattle.find.specs.Places.{Accepted, IsFirst, IsFound};
 
 use packet::{Outline, Piece};
+
+// The place behind the preamble of an accepted font.
+pub fn first_place(font: &[u8]) -> usize
+    requires { Accepted font.now }
+    ensures { IsFirst font.now result }
+{
+    usize::from(font[2]) + pieces::PREAMBLE
+}
 
 // The packet of a code, wherever it stands: the place of its flag, and its outline.
 pub fn packet_of(font: &[u8], code: usize) -> Option<(usize, Outline)>
     requires { Accepted font.now }
     ensures { IsFound font.now code result }
 {
-    let mut at = usize::from(font[2]) + pieces::PREAMBLE;
+    let mut at = first_place(font);
     loop {
         match pieces::piece_at(font, at) {
             Ok(Piece::Packet(x)) => {

@@ -22,35 +22,24 @@ use Rattle.format.specs.Listing.{heading_of, entries_of, heading_answer}
 use Rattle.format.proofs.FieldLaws.{read_fields_lem}
 use Rattle.format.proofs.CutLaws.{one_cut}
 use Rattle.format.proofs.CutTheorems.{accepts}
-use Rattle.refusals.specs.declared.Refusal as D
+use Rattle.std.specs.declared.result.Result.{Result}
+use Rattle.std.specs.declared.result.Result.TheVariants.{Ok, Err}
+use Rattle.refusals.specs.Names.{number_of}
+use Rattle.refusals.specs.Answers.{numbers}
+use Rattle.refusals.specs.declared.Refused.{Refused}
+use Rattle.refusals.proofs.AnswerLaws.{not_given}
 use Rattle.font.specs.Answer as A
-use Rattle.font.specs.declared.Checked.{Checked}
-use Rattle.font.specs.declared.Checked.TheVariants as C
 use Rattle.font.proofs.Promises.{accepted_exactly}
+use Rattle.find.specs.Places.{IsFirst}
 use Rattle.find.proofs.RestLaws.{rest_start, preamble_third}
 use Rattle.packet.specs.Standing.{StandsAt}
 use Rattle.packet.specs.declared.Outline.{Outline}
 use Rattle.measures.specs.Said.{IsSaid}
 use Rattle.measures.specs.declared.Measures.{Measures}
 use Rattle.measures.proofs.StandLaws.{flag_told}
-use Rattle.listing.specs.Listed.{in_numbers, Counted, IsHeading, IsFirst, Ahead, Starts, form_is, IsForm, IsEntry}
+use Rattle.listing.specs.Listed.{in_numbers, Counted, IsHeading, Ahead, Starts, form_is, IsForm, IsEntry}
 use Rattle.listing.specs.declared.Form.{Form}
 use Rattle.listing.specs.declared.Heading.{Heading}
-use Rattle.listing.specs.declared.Listed.TheVariants.{Font, Refused}
-
--- The form of a flag.
-
-pub form_short : (b : ℕ) → b % 8 < 4 → short ≡ form_of b
-unfolding form_of
-form_short b l = rw (lt-ltb (b % 8) 4 l) refl
-
-pub form_extended : (b : ℕ) → 4 ≤ b % 8 → b % 8 < 7 → extended ≡ form_of b
-unfolding form_of
-form_extended b g l = rw (le-ltb (b % 8) 4 g, lt-ltb (b % 8) 7 l) refl
-
-pub form_long : (b : ℕ) → 7 ≤ b % 8 → long ≡ form_of b
-unfolding form_of
-form_long b g = rw (le-ltb (b % 8) 4 (omega arith), le-ltb (b % 8) 7 g) refl
 
 -- The preamble.
 
@@ -117,9 +106,6 @@ heading_is_lem s n k ds cs hppp vppp (y, d, m) e f1 f2 f3 f4 e1 e2 e3 e4 x c =
     )
     refl
 
-pub first_is : (s : List ℕ) (k : ℕ) → k ≡ get_or s 2 0 → IsFirst s (k + 19)
-first_is s k e x c = ap (λ (i : ℕ). i + 19) e ∙ (preamble_third s x c).1
-
 -- All entries are ahead of the place behind the preamble.
 ahead_start : (s : List ℕ) (x : Parts) → Cut s x → (first : ℕ) → first ≡ length (preamble_bytes x.preamble) → Ahead s first (entries_of x)
 unfolding flat
@@ -128,27 +114,27 @@ ahead_start s x c first e =
     (record { parts = x; cut = c; before = []; left = x.pieces; pieces = refl; place = sym (add-zero (length (preamble_bytes x.preamble))); are = refl })
 
 -- A font whose characters are told is accepted, with so many.
-pub counted : (s : List ℕ) → Bytes s → (a : Checked) (n : ℕ) → a ≡ C.Chars n → A.in_numbers a ≡ told (check s) → Counted s n
-counted s b a n e h = (accepted_exactly s b a h n).0 e
+pub counted : (s : List ℕ) → Bytes s → (n : ℕ) → A.in_numbers (Ok n) ≡ told (check s) → Counted s n
+counted s b n h = (accepted_exactly s b (Ok n) h n).0 refl
 
 pub font_listed : (s : List ℕ) (n : ℕ) → Counted s n → (h : Heading) (first : ℕ) → IsHeading s h → IsFirst s first
-    → (in_numbers (Font h first) ≡ told (heading_answer s)) × Starts s (Font h first)
-unfolding in_numbers heading_answer told answers
+    → (in_numbers (Ok (h, first)) ≡ told (heading_answer s)) × Starts s (Ok (h, first))
+unfolding numbers heading_answer told answers
 font_listed s n (x, c, m) h first i f =
     (rw ((accepts s x c.bytes).1 c) (ap says (i x c)), ((entries_of x, ahead_start s x c first (f x c)), λ y d. (f y d, ahead_start s y d first (f y d))))
 
 -- The font's own refusal is given.
 refused_told : (s : List ℕ) (v : Answer Parts) (number place : ℕ) → refuses number place ≡ told (answers chars v) → refuses number place ≡ told (answers (heading_of s) v)
 unfolding told answers
-refused_told s (gives x) number place e = absurd (let z : ◌≡◌ {A = ℕ} 0 1 = cc in omega arith)
+refused_told s (gives x) number place e = cc
 refused_told s (refused y at) number place e =
     let i : number ≡ (number_and_place y at).0 = cc in
     let j : place ≡ (number_and_place y at).1 = cc in
     rw (i, j) refl
 
-pub refused_listed : (s : List ℕ) (a : Checked) (r : D.Refusal) (place : ℕ) → a ≡ C.Refused r place → A.in_numbers a ≡ told (check s) → in_numbers (Refused r place) ≡ told (heading_answer s)
-unfolding A.in_numbers in_numbers heading_answer check
-refused_listed s a r place e h = refused_told s (verdict s) r.0 place (sym (ap A.in_numbers e) ∙ h)
+pub refused_listed : (s : List ℕ) (x : Refused) → A.in_numbers (Err x) ≡ told (check s) → in_numbers (Err x) ≡ told (heading_answer s)
+unfolding numbers heading_answer check
+refused_listed s x h = refused_told s (verdict s) (number_of x.refusal) x.place h
 
 -- An entry.
 

@@ -5,6 +5,10 @@ use mathlib.Core.List.{List, [], ◌∷◌, ◌++◌, append_assoc, append-nil}
 use native.Mathlib.Omega.{arith}
 use lib.ListN.{length, drop, replicate, length-append}
 use lib.Seq.{drop-append_seam}
+use Rattle.std.specs.declared.option.Option.TheVariants.{None, Some}
+use Rattle.std.specs.declared.result.Result.{Result}
+use Rattle.std.specs.declared.result.Result.TheVariants.{Ok, Err}
+use Rattle.refusals.specs.declared.Refusal.{Refusal}
 use Rattle.format.specs.Refusals.{ok}
 use Rattle.format.specs.Pieces as F
 use Rattle.format.specs.Pieces.{preamble_bytes, bytes_of}
@@ -16,15 +20,12 @@ use Rattle.format.proofs.ListTheorems.{flat_append}
 use Rattle.packet.specs.Outlines.{piece_of}
 use Rattle.packet.specs.Standing.{StandsAt}
 use Rattle.packet.specs.declared.Piece.{Piece}
-use Rattle.packet.specs.declared.Piece.TheVariants.{Packet, Command, Last, Refused}
-use Rattle.find.proofs.RestLaws.{Rest, Next, rest_next, rest_last}
-use Rattle.listing.specs.Listed.{Ahead, Between, Starts, Coming, Comes, IsNext, IsEntry}
+use Rattle.packet.specs.declared.Piece.TheVariants.{Packet, Command, Last}
+use Rattle.find.proofs.RestLaws.{Rest, rest_next, rest_last}
+use Rattle.find.proofs.RestLaws as R
+use Rattle.listing.specs.Listed.{Listed, Ahead, Between, Starts, Coming, Next, Comes, IsNext, IsEntry}
 use Rattle.listing.specs.declared.Entry.{Entry}
 use Rattle.listing.specs.declared.Heading.{Heading}
-use Rattle.listing.specs.declared.Listed.{Listed}
-use Rattle.listing.specs.declared.Listed.TheVariants.{Font}
-use Rattle.listing.specs.declared.Next as M
-use Rattle.listing.specs.declared.Next.TheVariants as N
 
 all_later : (ps qs : List F.Piece) → AllOk (ps ++ qs) → AllOk qs
 all_later [] qs a = a
@@ -73,11 +74,11 @@ pub going_start : (s : List ℕ) (start : ℕ) → Between s start → Going s s
 going_start s start b = record { upto = omega arith; some = b; same = λ es t. t }
 
 -- What each piece gives.
-abbrev pub Goes : List ℕ → ℕ → ℕ → Piece → Type 0
-Goes s start at (Packet x) = StandsAt s at x × ((e : Entry) → IsEntry s at e → IsNext s start (N.Packet e x.end))
-Goes s start at (Command to) = (at < to) × (to ≤ length s) × Going s start to
-Goes s start at Last = IsNext s start N.End
-Goes s start at (Refused x) = ⊥
+abbrev pub Goes : List ℕ → ℕ → ℕ → Result Piece Refusal → Type 0
+Goes s start at (Ok (Packet x)) = StandsAt s at x × ((e : Entry) → IsEntry s at e → IsNext s start (Some (e, x.end)))
+Goes s start at (Ok (Command to)) = (at < to) × (to ≤ length s) × Going s start to
+Goes s start at (Ok Last) = IsNext s start None
+Goes s start at (Err x) = ⊥
 
 -- The bytes of the first piece stand at the place, and it is one that 01 allows.
 rest_found : (s : List ℕ) (at : ℕ) (p : F.Piece) (ps : List F.Piece) (pad : ℕ) → Rest s at (p ∷ ps) pad → (r : List ℕ) × (drop at s ≡ bytes_of p ++ r) × F.PieceOk p
@@ -85,15 +86,15 @@ unfolding flat
 rest_found s at p ps pad t = (flat ps ++ 245 ∷ replicate pad 246, t.whole ∙ append_assoc (bytes_of p) (flat ps) (245 ∷ replicate pad 246), t.pieces.0)
 
 -- The same, of one list of entries.
-abbrev Gives : List ℕ → ℕ → List L.Entry → Piece → Type 0
-Gives s at es (Packet x) = StandsAt s at x × ((e : Entry) → IsEntry s at e → Coming s at es e x.end)
-Gives s at es (Command to) = (at < to) × (to ≤ length s) × Ahead s to es
-Gives s at es Last = es ≡ []
-Gives s at es (Refused x) = ⊥
+abbrev Gives : List ℕ → ℕ → List L.Entry → Result Piece Refusal → Type 0
+Gives s at es (Ok (Packet x)) = StandsAt s at x × ((e : Entry) → IsEntry s at e → Coming s at es e x.end)
+Gives s at es (Ok (Command to)) = (at < to) × (to ≤ length s) × Ahead s to es
+Gives s at es (Ok Last) = es ≡ []
+Gives s at es (Err x) = ⊥
 
 module _ (s : List ℕ) (at : ℕ) (es : List L.Entry) (t : Ahead s at es) where
   -- A piece in front.
-  piece_gives : (p : F.Piece) (ps : List F.Piece) → t.left ≡ p ∷ ps → (n : Next s at p ps t.parts.pad) → Gives s at es (piece_of (length s) (ok (piece p n.rest)))
+  piece_gives : (p : F.Piece) (ps : List F.Piece) → t.left ≡ p ∷ ps → (n : R.Next s at p ps t.parts.pad) → Gives s at es (piece_of (length s) (ok (piece p n.rest)))
   unfolding piece_of entries
   piece_gives (F.special k xs) ps e n =
       (n.after, omega arith, subst (Ahead s (length s - length n.rest)) (sym (t.are ∙ ap (entries at) e ∙ ap (λ (i : ℕ). entries i ps) n.place)) (ahead_next t (F.special k xs) ps e (length s - length n.rest) n.place))
@@ -133,36 +134,36 @@ module _ (s : List ℕ) (at : ℕ) (es : List L.Entry) (t : Ahead s at es) where
           rw n.here (piece_gives p ps e n)
 
 -- Each piece gives what it must.
-pub goes : (s : List ℕ) (start at : ℕ) (q r : Piece) → Going s start at → q ≡ piece_of (length s) (step (drop at s)) → q ≡ r → Goes s start at r
-goes s start at q r g e z = go r (sym e ∙ z)
+pub goes : (s : List ℕ) (start at : ℕ) (r : Result Piece Refusal) → Going s start at → r ≡ piece_of (length s) (step (drop at s)) → Goes s start at r
+goes s start at r g e = go r (sym e)
   where
-    all : (r : Piece) → piece_of (length s) (step (drop at s)) ≡ r → (es : List L.Entry) → Ahead s at es → Gives s at es r
+    all : (r : Result Piece Refusal) → piece_of (length s) (step (drop at s)) ≡ r → (es : List L.Entry) → Ahead s at es → Gives s at es r
     all r y es t = subst (Gives s at es) y (gives s at es t)
 
-    go : (r : Piece) → piece_of (length s) (step (drop at s)) ≡ r → Goes s start at r
-    go (Packet x) y = (
-      (all (Packet x) y g.some.0 g.some.1).0,
+    go : (r : Result Piece Refusal) → piece_of (length s) (step (drop at s)) ≡ r → Goes s start at r
+    go (Ok (Packet x)) y = (
+      (all (Ok (Packet x)) y g.some.0 g.some.1).0,
       λ d i es t.
-          let u = (all (Packet x) y es (g.same es t)).1 d i in
+          let u = (all (Ok (Packet x)) y es (g.same es t)).1 d i in
           record { others = u.others; next = u.next; packet = u.packet; rest = u.rest; stands = u.stands; allowed = u.allowed; behind = u.behind; further = omega (arith, g.upto, u.further); ahead = u.ahead },
     )
-    go (Command to) y =
-        let u = all (Command to) y g.some.0 g.some.1 in (
+    go (Ok (Command to)) y =
+        let u = all (Ok (Command to)) y g.some.0 g.some.1 in (
           u.0,
           u.1,
-          record { upto = let k = u.0 in omega (arith, g.upto); some = (g.some.0, u.2); same = λ es t. (all (Command to) y es (g.same es t)).2 },
+          record { upto = let k = u.0 in omega (arith, g.upto); some = (g.some.0, u.2); same = λ es t. (all (Ok (Command to)) y es (g.same es t)).2 },
         )
-    go Last y = λ es t. all Last y es (g.same es t)
-    go (Refused x) y = all (Refused x) y g.some.0 g.some.1
+    go (Ok Last) y = λ es t. all (Ok Last) y es (g.same es t)
+    go (Err x) y = all (Err x) y g.some.0 g.some.1
 
 -- For who walks on.
 
 -- A packet that comes: the place behind it is further on in the font, and a piece or the ending begins there.
-pub comes_on : (s : List ℕ) (at : ℕ) (q : M.Next) (e : Entry) (to : ℕ) → Between s at → IsNext s at q → q ≡ N.Packet e to → (at < to) × (to ≤ length s) × Between s to
+pub comes_on : (s : List ℕ) (at : ℕ) (q : Next) (e : Entry) (to : ℕ) → Between s at → IsNext s at q → q ≡ Some (e, to) → (at < to) × (to ≤ length s) × Between s to
 comes_on s at q e to (es, t) n z =
     let u = subst (Comes s at es) z (n es t) in
     (u.further, (ahead_rest u.ahead).upto, (u.others, u.ahead))
 
 -- The place behind the preamble is such a place.
-pub starts_on : (s : List ℕ) (q : Listed) (h : Heading) (first : ℕ) → Starts s q → q ≡ Font h first → Between s first
+pub starts_on : (s : List ℕ) (q : Listed) (h : Heading) (first : ℕ) → Starts s q → q ≡ Ok (h, first) → Between s first
 starts_on s q h first t z = (subst (Starts s) z t).0

@@ -6,6 +6,11 @@ use mathlib.Core.Logic.{◌↔◌}
 use mathlib.Core.List.{List, [], ◌∷◌, ◌++◌, map}
 use native.Mathlib.Omega.{arith}
 use lib.ListN.{length, drop}
+use Rattle.std.specs.declared.option.Option.TheVariants.{None, Some}
+use Rattle.std.specs.declared.result.Result.TheVariants.{Ok, Err}
+use Rattle.refusals.specs.Answers.{numbers}
+use Rattle.refusals.specs.declared.Refused.{Refused}
+use Rattle.refusals.proofs.AnswerLaws.{one_numbers}
 use Rattle.format.specs.Refusals.{Answer, gives, refused, number_and_place, says, refuses, told}
 use Rattle.format.specs.Numbers.{Bytes}
 use Rattle.format.specs.Pieces as F
@@ -17,22 +22,18 @@ use Rattle.format.specs.Listing.{heading_of, entries_of, heading_answer}
 use Rattle.format.proofs.PieceLaws.{step_piece}
 use Rattle.format.proofs.ListTheorems.{heading_exactly, heading_refused}
 use Rattle.measures.proofs.SaidLaws.{one_measures}
-use Rattle.listing.specs.Listed.{heading_is, in_numbers, Ahead, Between, Starts, Coming, Comes, IsNext, form_is, entry_is}
+use Rattle.listing.specs.Listed.{Listed, heading_is, in_numbers, Ahead, Between, Starts, Coming, Next, Comes, IsNext, form_is, entry_is}
 use Rattle.listing.specs.declared.Form.{Form}
 use Rattle.listing.specs.declared.Form.TheVariants.{Short, Extended, Long}
 use Rattle.listing.specs.declared.Heading.{Heading}
-use Rattle.listing.specs.declared.Listed.{Listed}
-use Rattle.listing.specs.declared.Listed.TheVariants.{Font, Refused}
 use Rattle.listing.specs.declared.Entry.{Entry}
-use Rattle.listing.specs.declared.Next.{Next}
-use Rattle.listing.specs.declared.Next.TheVariants.{Packet, End}
 
 -- The whole listing.
 
 -- From a place on, these packets come one after another, as the promise allows, and then none.
 pub data Walked (s : List ℕ) : ℕ → List Entry → Type 0 where
-  none : (at : ℕ) → IsNext s at End → Walked s at []
-  more : (at : ℕ) (e : Entry) (to : ℕ) (es : List Entry) → IsNext s at (Packet e to) → Walked s to es → Walked s at (e ∷ es)
+  none : (at : ℕ) → IsNext s at None → Walked s at []
+  more : (at : ℕ) (e : Entry) (to : ℕ) (es : List Entry) → IsNext s at (Some (e, to)) → Walked s to es → Walked s at (e ∷ es)
 
 -- They are the entries that are ahead.
 walked_all : (s : List ℕ) (at : ℕ) (es : List Entry) → Walked s at es → (ls : List L.Entry) → Ahead s at ls → map entry_is es ≡ ls
@@ -42,20 +43,20 @@ walked_all s _ _ (more at e to es n w) ls t =
     ap (λ (x : List L.Entry). entry_is e ∷ x) (walked_all s to es w c.others c.ahead) ∙ sym c.next
 
 -- From the place that the heading comes with they are those of the font's cut.
-pub lists_all : (s : List ℕ) (h : Heading) (first : ℕ) → Starts s (Font h first) → (x : Parts) → Cut s x → (es : List Entry) → Walked s first es → map entry_is es ≡ entries_of x
+pub lists_all : (s : List ℕ) (h : Heading) (first : ℕ) → Starts s (Ok (h, first)) → (x : Parts) → Cut s x → (es : List Entry) → Walked s first es → map entry_is es ≡ entries_of x
 lists_all s h first t x c es w = walked_all s first es w (entries_of x) (t.1 x c).1
 
 -- One answer.
 
 one_form : (a b : Form) → form_is a ≡ form_is b → a ≡ b
 one_form Short Short e = refl
-one_form Short Extended e = absurd (let z : ◌≡◌ {A = ℕ} 0 1 = cc in omega arith)
-one_form Short Long e = absurd (let z : ◌≡◌ {A = ℕ} 0 1 = cc in omega arith)
-one_form Extended Short e = absurd (let z : ◌≡◌ {A = ℕ} 0 1 = cc in omega arith)
+one_form Short Extended e = cc
+one_form Short Long e = cc
+one_form Extended Short e = cc
 one_form Extended Extended e = refl
-one_form Extended Long e = absurd (let z : ◌≡◌ {A = ℕ} 0 1 = cc in omega arith)
-one_form Long Short e = absurd (let z : ◌≡◌ {A = ℕ} 0 1 = cc in omega arith)
-one_form Long Extended e = absurd (let z : ◌≡◌ {A = ℕ} 0 1 = cc in omega arith)
+one_form Extended Long e = cc
+one_form Long Short e = cc
+one_form Long Extended e = cc
 one_form Long Long e = refl
 
 one_entry : (a b : Entry) → entry_is a ≡ entry_is b → a ≡ b
@@ -83,14 +84,17 @@ one_heading a b e =
 
 -- Any two answers to a font are equal,
 one_listed : (s : List ℕ) (r t : Listed) → in_numbers r ≡ in_numbers t → Starts s r → Starts s t → r ≡ t
-unfolding in_numbers
-one_listed s (Font h i) (Font k j) e a b =
-    let z : heading_is h ≡ heading_is k = cc in
+unfolding numbers
+one_listed s (Ok r) (Ok t) e a b =
+    let z : heading_is r.0 ≡ heading_is t.0 = cc in
     let p = a.0.1 in
-    rw (one_heading h k z, (a.1 p.parts p.cut).0 ∙ sym (b.1 p.parts p.cut).0) refl
-one_listed s (Font h i) (Refused x p) e a b = absurd (let z : ◌≡◌ {A = ℕ} 0 1 = cc in omega arith)
-one_listed s (Refused x p) (Font h i) e a b = absurd (let z : ◌≡◌ {A = ℕ} 0 1 = cc in omega arith)
-one_listed s (Refused x p) (Refused y q) e a b = let z : x.0 ≡ y.0 = cc in let i : p ≡ q = cc in rw (z, i) refl
+    rw (one_heading r.0 t.0 z, (a.1 p.parts p.cut).0 ∙ sym (b.1 p.parts p.cut).0) refl
+one_listed s (Ok r) (Err y) e a b = cc
+one_listed s (Err x) (Ok t) e a b = cc
+one_listed s (Err x) (Err y) e a b =
+    let z = one_numbers heading_is one_heading (Err x) (Err y) e in
+    let q : x ≡ y = cc in
+    ap Err q
 
 pub one_answer : (s : List ℕ) (r t : Listed) → in_numbers r ≡ told (heading_answer s) → Starts s r → in_numbers t ≡ told (heading_answer s) → Starts s t → r ≡ t
 one_answer s r t e a f b = one_listed s r t (e ∙ sym f) a b
@@ -107,14 +111,14 @@ one_next s at r t (es, k) a b = go r t (a es k) (b es k)
         a.behind ∙ ap (λ (x : Entry). x.at + length (bytes_of (F.packet a.packet))) q ∙ ap (λ (x : F.Packet). e.at + length (bytes_of (F.packet x))) p ∙ sym b.behind
 
     go : (r t : Next) → Comes s at es r → Comes s at es t → r ≡ t
-    go (Packet d to) (Packet e up) a b =
+    go (Some r) (Some t) a b =
         let y = sym a.next ∙ b.next in
-        let z : entry_is d ≡ entry_is e = cc in
-        let q = one_entry d e z in
-        rw (q, behind_is d e to up a b q) refl
-    go (Packet d to) End a b = absurd (let y = sym a.next ∙ b in let z : ◌≡◌ {A = ℕ} 0 1 = cc in omega arith)
-    go End (Packet e up) a b = absurd (let y = sym b.next ∙ a in let z : ◌≡◌ {A = ℕ} 0 1 = cc in omega arith)
-    go End End a b = refl
+        let z : entry_is r.0 ≡ entry_is t.0 = cc in
+        let q = one_entry r.0 t.0 z in
+        rw (q, behind_is r.0 t.0 r.1 t.1 a b q) refl
+    go (Some r) None a b = cc (sym a.next ∙ b)
+    go None (Some t) a b = cc (sym b.next ∙ a)
+    go None None a b = refl
 
 -- What an answer says.
 
@@ -127,7 +131,7 @@ module _ (s : List ℕ) (b : Bytes s) (r : Listed) (promised : in_numbers r ≡ 
     where
       go : (a : Answer L.Heading) → told a ≡ says h → a ≡ gives h
       go (gives k) e = let z : k ≡ h = cc in ap gives z
-      go (refused x place) e = absurd (let z : ◌≡◌ {A = ℕ} 0 1 = cc in omega arith)
+      go (refused x place) e = cc
 
   -- It is a refusal at a place exactly if the font, checked, is refused with that number there.
   pub refused_exactly : (n place : ℕ) → (in_numbers r ≡ refuses n place) ↔ (told (check s) ≡ refuses n place)
@@ -135,14 +139,14 @@ module _ (s : List ℕ) (b : Bytes s) (r : Listed) (promised : in_numbers r ≡ 
   refused_exactly n place = ((λ e. there (heading_answer s) refl (sym promised ∙ e)), (λ e. back (check s) refl e))
     where
       there : (a : Answer L.Heading) → heading_answer s ≡ a → told a ≡ refuses n place → told (check s) ≡ refuses n place
-      there (gives k) q e = absurd (let z : ◌≡◌ {A = ℕ} 0 1 = cc in omega arith)
+      there (gives k) q e = cc
       there (refused x at) q e =
           let z : (number_and_place x at).0 ≡ n = cc in
           let i : (number_and_place x at).1 ≡ place = cc in
           ap told ((heading_refused s x at).0 q) ∙ rw (z, i) refl
 
       back : (a : Answer ℕ) → check s ≡ a → told a ≡ refuses n place → in_numbers r ≡ refuses n place
-      back (gives k) q e = absurd (let z : ◌≡◌ {A = ℕ} 0 1 = cc in omega arith)
+      back (gives k) q e = cc
       back (refused x at) q e =
           let z : (number_and_place x at).0 ≡ n = cc in
           let i : (number_and_place x at).1 ≡ place = cc in

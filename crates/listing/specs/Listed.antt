@@ -1,21 +1,21 @@
 -- What the functions of this crate answer, as the definitions say it. Assumes nothing: these are definitions.
-use Rattle.std.specs.Prelude.{ℕ, ◌+◌, ◌<◌, ◌≡◌, List, [], ◌∷◌, ◌++◌, length, drop}
-use Rattle.format.specs.Refusals.{Told, says, refuses, ok}
+use Rattle.std.specs.Prelude.{ℕ, ◌+◌, ◌<◌, ◌≡◌, Ok, Err, Some, None, List, [], ◌∷◌, ◌++◌, length, drop}
+use Rattle.std.specs.declared.option.Option.{Option}
+use Rattle.std.specs.declared.result.Result.{Result}
+use Rattle.format.specs.Refusals.{Told, ok}
 use Rattle.format.specs.Pieces as F
 use Rattle.format.specs.Pieces.{preamble_bytes, short, extended, long, Piece, packet, bytes_of}
 use Rattle.format.specs.Cut.{flat, Parts, chars, Cut}
 use Rattle.format.specs.Verdict.{piece, step, form_of}
 use Rattle.format.specs.Listing as L
 use Rattle.format.specs.Listing.{heading_of, entry_of, entries, entries_of}
+use Rattle.refusals.specs.Answers.{numbers}
+use Rattle.refusals.specs.declared.Refused.{Refused}
 use Rattle.measures.specs.Said.{said}
 use Rattle.listing.specs.declared.Form.{Form}
 use Rattle.listing.specs.declared.Form.TheVariants.{Short, Extended, Long}
 use Rattle.listing.specs.declared.Heading.{Heading}
-use Rattle.listing.specs.declared.Listed.{Listed}
-use Rattle.listing.specs.declared.Listed.TheVariants.{Font, Refused}
 use Rattle.listing.specs.declared.Entry.{Entry}
-use Rattle.listing.specs.declared.Next.{Next}
-use Rattle.listing.specs.declared.Next.TheVariants.{Packet, End}
 
 -- The heading.
 
@@ -23,10 +23,13 @@ use Rattle.listing.specs.declared.Next.TheVariants.{Packet, End}
 abbrev pub heading_is : Heading → L.Heading
 heading_is h = record { bytes = h.bytes; ds = h.ds; cs = h.cs; hppp = h.hppp; vppp = h.vppp; chars = h.chars }
 
+-- The heading and the place behind the preamble, or a refusal with its place.
+abbrev pub Listed : Type 0
+Listed = Result (Heading × ℕ) Refused
+
 -- The answer in 01's numbers.
-unfoldable pub in_numbers : Listed → Told L.Heading
-in_numbers (Font h first) = says (heading_is h)
-in_numbers (Refused x place) = refuses x.0 place
+abbrev pub in_numbers : Listed → Told L.Heading
+in_numbers = numbers (λ t. heading_is t.0)
 
 -- An accepted font with n packets, and its heading.
 abbrev pub Counted : List ℕ → ℕ → Type 0
@@ -57,18 +60,14 @@ pub record Ahead (s : List ℕ) (at : ℕ) (es : List L.Entry) : Type 0 where
   pub place : at ≡ length (preamble_bytes parts.preamble) + length (flat before)
   pub are : es ≡ entries at left
 
--- The place behind the preamble.
-abbrev pub IsFirst : List ℕ → ℕ → Type 0
-IsFirst s r = (x : Parts) → Cut s x → r ≡ length (preamble_bytes x.preamble)
-
 -- A piece or the ending begins at the place.
 abbrev pub Between : List ℕ → ℕ → Type 0
 Between s at = (es : List L.Entry) × Ahead s at es
 
 -- Behind the preamble the font's entries are all ahead.
 abbrev pub Starts : List ℕ → Listed → Type 0
-Starts s (Font h first) = Between s first × ((x : Parts) → Cut s x → (first ≡ length (preamble_bytes x.preamble)) × Ahead s first (entries_of x))
-Starts s (Refused x place) = Unit {0}
+Starts s (Ok t) = Between s t.1 × ((x : Parts) → Cut s x → (t.1 ≡ length (preamble_bytes x.preamble)) × Ahead s t.1 (entries_of x))
+Starts s (Err x) = Unit {0}
 
 -- The next of the entries is e, that of a packet whose bytes stand from e's place up to `to`, and the others are ahead of that place.
 pub record Coming (s : List ℕ) (at : ℕ) (es : List L.Entry) (e : Entry) (to : ℕ) : Type 0 where
@@ -82,10 +81,14 @@ pub record Coming (s : List ℕ) (at : ℕ) (es : List L.Entry) (e : Entry) (to 
   pub further : at < to
   pub ahead : Ahead s to others
 
+-- A packet with the place behind it, or that no packet follows.
+abbrev pub Next : Type 0
+Next = Option (Entry × ℕ)
+
 -- The next packet comes, or there is none.
 abbrev pub Comes : List ℕ → ℕ → List L.Entry → Next → Type 0
-Comes s at es (Packet e to) = Coming s at es e to
-Comes s at es End = es ≡ []
+Comes s at es (Some t) = Coming s at es t.0 t.1
+Comes s at es None = es ≡ []
 
 -- What comes from a place on, whatever entries are ahead.
 abbrev pub IsNext : List ℕ → ℕ → Next → Type 0

@@ -5,24 +5,34 @@ ghost use Rattle.std.specs.Prelude.{◌≡◌};
 ghost use Rattle.format.specs.Refusals.{told};
 ghost use Rattle.format.specs.Listing.{heading_answer};
 ghost use Rattle.packet.specs.Standing.{StandsAt};
-ghost use Rattle.find.specs.Places.{Accepted};
-ghost use Rattle.listing.specs.Listed.{in_numbers, Counted, IsHeading, IsFirst, Starts, IsForm, IsEntry, Between, IsNext};
+ghost use Rattle.listing.specs.Listed.{in_numbers, Counted, IsHeading, Starts, IsForm, IsEntry, Between, IsNext};
 
-use font::Checked;
 use measures::Measures;
 use packet::{Outline, Piece};
-use refusals::Refusal;
+use refusals::Refused;
+use std::fmt;
 
 // The form of a packet.
-#[derive(Clone, Copy)]
+#[derive(Clone, Copy, Debug, PartialEq, Eq)]
 pub enum Form {
     Short,
     Extended,
     Long,
 }
 
+// Its word in a listing.
+impl fmt::Display for Form {
+    fn fmt<W: fmt::Write>(&self, f: &mut fmt::Formatter<W>) -> fmt::Result {
+        f.write_str(match self {
+            Form::Short => "short",
+            Form::Extended => "extended",
+            Form::Long => "long",
+        })
+    }
+}
+
 // The file's length, the preamble's numbers, and the number of packets.
-#[derive(Clone, Copy)]
+#[derive(Clone, Copy, Debug, PartialEq, Eq)]
 pub struct Heading {
     pub bytes: usize,
     pub ds: i64,
@@ -32,15 +42,8 @@ pub struct Heading {
     pub chars: usize,
 }
 
-// The heading and the place behind the preamble, or a refusal with its place.
-#[derive(Clone, Copy)]
-pub enum Listed {
-    Font(Heading, usize),
-    Refused(Refusal, usize),
-}
-
 // A packet: the place of its flag, its form, f and black bit, and its measures.
-#[derive(Clone, Copy)]
+#[derive(Clone, Copy, Debug, PartialEq, Eq)]
 pub struct Entry {
     pub at: usize,
     pub form: Form,
@@ -49,19 +52,12 @@ pub struct Entry {
     pub m: Measures,
 }
 
-// The next packet and the place behind it, or that no packet follows.
-#[derive(Clone, Copy)]
-pub enum Next {
-    Packet(Entry, usize),
-    End,
-}
-
 // The heading of an accepted font with so many packets.
 fn heading_of(font: &[u8], chars: usize) -> Heading
     requires { Counted font.now chars }
     ensures { IsHeading font.now result }
 {
-    let at = byte::wide(font[2]) + 3;
+    let at = usize::from(font[2]) + 3;
     let ds = fields::signed_at(font, at, 4);
     let cs = fields::signed_at(font, at + 4, 4);
     let hppp = fields::signed_at(font, at + 8, 4);
@@ -76,38 +72,25 @@ fn heading_of(font: &[u8], chars: usize) -> Heading
     }
 }
 
-// The place behind the preamble of an accepted font.
-fn first_place(font: &[u8]) -> usize
-    requires { Accepted font.now }
-    ensures { IsFirst font.now result }
-{
-    byte::wide(font[2]) + pieces::PREAMBLE
-}
-
 // Any bytes: the heading and the place behind the preamble, or the font's refusal.
-pub fn list_font(font: &[u8]) -> Listed
+pub fn list_font(font: &[u8]) -> Result<(Heading, usize), Refused>
     ensures result_value { in_numbers result ≡ told (heading_answer font.now) }
     ensures starts { Starts font.now result }
 {
-    let checked = font::check(font);
-    match checked {
-        Checked::Chars(n) => Listed::Font(heading_of(font, n), first_place(font)),
-        Checked::Refused(x, place) => Listed::Refused(x, place),
-    }
+    let n = font::check(font)?;
+    Ok((heading_of(font, n), find::first_place(font)))
 }
 
 // The form that a flag's lower bits pick.
+#[tactic(auto, unfolding(format::specs::Verdict::form_of))]
 fn form_of(flag: u8) -> Form
     ensures { IsForm flag result }
 {
-    let low = byte::wide(flag) % 8;
-    if low < 4 {
-        return Form::Short;
+    match flag % 8 {
+        0..=3 => Form::Short,
+        4..=6 => Form::Extended,
+        _ => Form::Long,
     }
-    if low < 7 {
-        return Form::Extended;
-    }
-    Form::Long
 }
 
 // The packet of an outline whose flag stands at `at`.
@@ -126,29 +109,18 @@ fn entry_at(font: &[u8], at: usize, x: Outline) -> Entry
     }
 }
 
-// The next packet from a place on where a piece or the ending begins.
-pub fn next_packet(font: &[u8], start: usize) -> Next
+// The next packet from a place on where a piece or the ending begins, with the place behind it; or that no packet follows.
+pub fn next_packet(font: &[u8], start: usize) -> Option<(Entry, usize)>
     requires { Between font.now start }
     ensures { IsNext font.now start result }
 {
     let mut at = start;
     loop {
-        let piece = pieces::piece_at(font, at);
-        match piece {
-            Piece::Packet(x) => {
-                let end = x.end;
-                let e = entry_at(font, at, x);
-                return Next::Packet(e, end);
-            }
-            Piece::Command(next) => {
-                at = next;
-            }
-            Piece::Last => {
-                return Next::End;
-            }
-            Piece::Refused(_) => {
-                return Next::End;
-            }
+        match pieces::piece_at(font, at) {
+            Ok(Piece::Packet(x)) => return Some((entry_at(font, at, x), x.end)),
+            Ok(Piece::Command(next)) => at = next,
+            Ok(Piece::Last) => return None,
+            Err(_) => return None,
         }
     }
 }

@@ -80,10 +80,10 @@ code_raw (negsuc c) l = sym (le-ltb (4294967296 - suc c) 256 (omega arith))
 pub limits_own : (w h : ℤ) → within_limits w h ≡ true → (nat_abs w ≡ twos 4 w) × (nat_abs h ≡ twos 4 h)
 unfolding within_limits twos
 limits_own (pos w) (pos h) e = (refl, refl)
-limits_own (pos w) (negsuc h) e = absurd (let z : ◌≡◌ {A = ℕ} 0 1 = cc in omega arith)
-limits_own (negsuc w) h e = absurd (let z : ◌≡◌ {A = ℕ} 0 1 = cc in omega arith)
+limits_own (pos w) (negsuc h) e = cc
+limits_own (negsuc w) h e = cc
 
 pub code_own : (c : ℤ) → is_code c ≡ true → nat_abs c ≡ twos 4 c
 unfolding is_code twos
 code_own (pos c) e = refl
-code_own (negsuc c) e = absurd (let z : ◌≡◌ {A = ℕ} 0 1 = cc in omega arith)
+code_own (negsuc c) e = cc

@@ -1,14 +1,9 @@
-use mathlib.Core.Path.{refl}
 use native.Mathlib.Omega.{arith}
-use Rattle.find.proofs.RestLaws.{preamble_third}
 use Rattle.find.proofs.GoingLaws.{going_start, goes}
 use Rattle.find.proofs.packet_of.Goals as goal
 
-pub bounds-font-2 : goal.bounds-font-2
-bounds-font-2 c = (preamble_third _ _ c.requires.1).0
-
 pub loop-x-init : goal.loop-x-init
-loop-x-init c = going_start _ _ _ _ c.requires c.from-at.ensures refl
+loop-x-init c = going_start _ _ _ c.requires c.first_place-at.ensures
 
 pub returns-then-x-code : goal.returns-then-x-code
 returns-then-x-code c = (goes _ _ _ _ c.loop-x.invariant (rw c.in-Ok-Packet.field-0-is at c.in-Ok-Packet.ensures)).1 c.if-x-code.true

@@ -9,25 +9,25 @@ bounds-font-2 c = (preamble_third _ _ c.requires.1).0
 pub signed_at-ds-requires : goal.signed_at-ds-requires
 signed_at-ds-requires c =
     let r = preamble_room _ _ c.requires.1 in
-    (omega (arith, r, c.wide-at.ensures.0), omega arith, omega arith)
+    (omega (arith, r, c.from-at.ensures), omega arith, omega arith)
 
 pub signed_at-cs-requires : goal.signed_at-cs-requires
 signed_at-cs-requires c =
     let r = preamble_room _ _ c.requires.1 in
-    (omega (arith, r, c.wide-at.ensures.0), omega arith, omega arith)
+    (omega (arith, r, c.from-at.ensures), omega arith, omega arith)
 
 pub signed_at-hppp-requires : goal.signed_at-hppp-requires
 signed_at-hppp-requires c =
     let r = preamble_room _ _ c.requires.1 in
-    (omega (arith, r, c.wide-at.ensures.0), omega arith, omega arith)
+    (omega (arith, r, c.from-at.ensures), omega arith, omega arith)
 
 pub signed_at-vppp-requires : goal.signed_at-vppp-requires
 signed_at-vppp-requires c =
     let r = preamble_room _ _ c.requires.1 in
-    (omega (arith, r, c.wide-at.ensures.0), omega arith, omega arith)
+    (omega (arith, r, c.from-at.ensures), omega arith, omega arith)
 
 pub returns : goal.returns
 returns c =
-    heading_is_lem c.args.font.now c.args.chars _ _ _ _ _ c.requires c.wide-at.ensures.0
+    heading_is_lem c.args.font.now c.args.chars _ _ _ _ _ c.requires c.from-at.ensures
     (record { sfits = c.signed_at-ds.type_inv }) (record { sfits = c.signed_at-cs.type_inv }) (record { sfits = c.signed_at-hppp.type_inv }) (record { sfits = c.signed_at-vppp.type_inv })
     c.signed_at-ds.ensures c.signed_at-cs.ensures c.signed_at-hppp.ensures c.signed_at-vppp.ensures

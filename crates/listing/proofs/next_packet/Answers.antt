@@ -5,22 +5,22 @@ use Rattle.listing.proofs.next_packet.Goals as goal
 pub loop-x-init : goal.loop-x-init
 loop-x-init c = going_start _ _ c.requires
 
-pub entry_at-e-requires : goal.entry_at-e-requires
-entry_at-e-requires c = (goes _ _ _ _ _ c.loop-x.invariant c.piece_at-piece.ensures c.in-Packet.is).0
+pub entry_at-requires : goal.entry_at-requires
+entry_at-requires c = (goes _ _ _ _ c.loop-x.invariant (rw c.in-Ok-Packet.field-0-is at c.in-Ok-Packet.ensures)).0
 
-pub returns-in-Packet : goal.returns-in-Packet
-returns-in-Packet c = (goes _ _ _ _ _ c.loop-x.invariant c.piece_at-piece.ensures c.in-Packet.is).1 c.entry_at-e.result c.entry_at-e.ensures
+pub returns-in-Ok-Packet : goal.returns-in-Ok-Packet
+returns-in-Ok-Packet c = (goes _ _ _ _ c.loop-x.invariant (rw c.in-Ok-Packet.field-0-is at c.in-Ok-Packet.ensures)).1 c.entry_at.result c.entry_at.ensures
 
 pub loop-x-smaller : goal.loop-x-smaller
 loop-x-smaller c =
-    let t = goes _ _ _ _ _ c.loop-x.invariant c.piece_at-piece.ensures c.in-Command.is in
+    let t = goes _ _ _ _ c.loop-x.invariant (rw c.in-Ok-Command.field-0-is at c.in-Ok-Command.ensures) in
     omega (arith, t.0, t.1)
 
 pub loop-x-preserved : goal.loop-x-preserved
-loop-x-preserved c = (goes _ _ _ _ _ c.loop-x.invariant c.piece_at-piece.ensures c.in-Command.is).2
+loop-x-preserved c = (goes _ _ _ _ c.loop-x.invariant (rw c.in-Ok-Command.field-0-is at c.in-Ok-Command.ensures)).2
 
-pub returns-in-Last : goal.returns-in-Last
-returns-in-Last c = goes _ _ _ _ _ c.loop-x.invariant c.piece_at-piece.ensures c.in-Last.is
+pub returns-in-Ok-Last : goal.returns-in-Ok-Last
+returns-in-Ok-Last c = goes _ _ _ _ c.loop-x.invariant (rw c.in-Ok-Last.field-0-is at c.in-Ok-Last.ensures)
 
-pub returns-in-Refused : goal.returns-in-Refused
-returns-in-Refused c = absurd (goes _ _ _ _ _ c.loop-x.invariant c.piece_at-piece.ensures c.in-Refused.is)
+pub returns-in-Err : goal.returns-in-Err
+returns-in-Err c = absurd (goes _ _ _ _ c.loop-x.invariant c.in-Err.ensures)
