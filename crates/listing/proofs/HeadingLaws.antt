@@ -1,5 +1,5 @@
 -- The heading of a font that has a cut, and where its first piece stands. Assumes nothing.
-use Prim.Native.Nat.{ℕ, suc, ◌+◌, ◌≤◌, ◌<◌, ◌%◌}
+use Prim.Native.Nat.{ℕ, suc, ◌+◌, ◌≤◌}
 use mathlib.Core.Path.{◌≡◌, refl, sym, ap, ◌∙◌, subst}
 use mathlib.Core.List.{List, [], ◌∷◌, ◌++◌, append_assoc}
 use native.Mathlib.Omega.{arith}
@@ -10,24 +10,21 @@ use mir.Val.{SFits, to_z, of_z}
 use mir.Facts.{to_z-of_z}
 use lib.ListN.{length, drop, get_or, replicate}
 use lib.Seq.{drop-append_seam, drop-drop}
-use borrow.Author.Tests.{lt-ltb, le-ltb}
 use Rattle.format.specs.Refusals.{Answer, gives, refused, says, refuses, told, answers, number_and_place}
 use Rattle.format.specs.Numbers.{Bytes, signed, field_bytes}
 use Rattle.format.specs.Decoding.{number, value_of, read_fields}
 use Rattle.format.specs.Pieces as F
 use Rattle.format.specs.Pieces.{preamble_kinds, preamble_values, preamble_bytes, short, extended, long}
 use Rattle.format.specs.Cut.{flat, Parts, chars, join, Cut}
-use Rattle.format.specs.Verdict.{form_of, verdict, check}
+use Rattle.format.specs.Verdict.{verdict, check}
 use Rattle.format.specs.Listing.{heading_of, entries_of, heading_answer}
 use Rattle.format.proofs.FieldLaws.{read_fields_lem}
 use Rattle.format.proofs.CutLaws.{one_cut}
 use Rattle.format.proofs.CutTheorems.{accepts}
-use Rattle.std.specs.declared.result.Result.{Result}
 use Rattle.std.specs.declared.result.Result.TheVariants.{Ok, Err}
 use Rattle.refusals.specs.Names.{number_of}
 use Rattle.refusals.specs.Answers.{numbers}
 use Rattle.refusals.specs.declared.Refused.{Refused}
-use Rattle.refusals.proofs.AnswerLaws.{not_given}
 use Rattle.font.specs.Answer as A
 use Rattle.font.proofs.Promises.{accepted_exactly}
 use Rattle.find.specs.Places.{IsFirst}

@@ -4,12 +4,10 @@ use Prim.Native.Nat.{ℕ, ◌+◌}
 use mathlib.Core.Path.{◌≡◌, refl, sym, ap, ◌∙◌}
 use mathlib.Core.Logic.{◌↔◌}
 use mathlib.Core.List.{List, [], ◌∷◌, ◌++◌, map}
-use native.Mathlib.Omega.{arith}
 use lib.ListN.{length, drop}
 use Rattle.std.specs.declared.option.Option.TheVariants.{None, Some}
 use Rattle.std.specs.declared.result.Result.TheVariants.{Ok, Err}
 use Rattle.refusals.specs.Answers.{numbers}
-use Rattle.refusals.specs.declared.Refused.{Refused}
 use Rattle.refusals.proofs.AnswerLaws.{one_numbers}
 use Rattle.format.specs.Refusals.{Answer, gives, refused, number_and_place, says, refuses, told}
 use Rattle.format.specs.Numbers.{Bytes}

@@ -1,3 +1,4 @@
+use Rattle.std.proofs.lemmas.Result.{err_from_is_err_and}
 use Rattle.packet.proofs.StandingLaws.{bytes_fit}
 use Rattle.listing.proofs.HeadingLaws.{counted, font_listed, refused_listed}
 use Rattle.listing.proofs.list_font.Goals as goal
@@ -17,4 +18,6 @@ returns c =
     record { result_value = e.0; starts = e.1 }
 
 pub returns-in_err-n : goal.returns-in_err-n
-returns-in_err-n c = record { result_value = refused_listed _ _ c.in_err-n.ensures; starts = tt }
+returns-in_err-n c =
+    let p = err_from_is_err_and c.from_residual.result c.from_residual.ensures.1 in
+    rw (p.1, p.2) (record { result_value = refused_listed _ _ c.in_err-n.ensures; starts = tt })
