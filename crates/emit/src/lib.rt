@@ -22,6 +22,7 @@ pub fn put_nybble(buf: &mut [u8], i: usize, x: usize)
 }
 
 // k with its zeros and hexadecimal digits, from i on; it answers the place behind.
+#[tactic(auto, using(crate::proofs::PutLaws::large_length_one, crate::proofs::PutLaws::large_length_more))]
 fn write_large(buf: &mut [u8], i: usize, k: usize) -> usize
     requires { i + length (large k) ≤ 2 * length buf.old }
     ensures { (result ≡ i + length (large k)) × (buf.new ≡ put_all buf.old i (large k)) }
@@ -38,6 +39,7 @@ fn write_large(buf: &mut [u8], i: usize, k: usize) -> usize
 }
 
 // The number n for f, from i on; it answers the place behind. Up to the limit, and only so far, the first of two nybbles is at most 13.
+#[tactic(auto, using(format::proofs::PackedLaws::length_one, crate::proofs::PutLaws::two_long))]
 pub fn write_number(buf: &mut [u8], i: usize, f: Factor, n: usize) -> usize
     requires { (1 ≤ n) × (n ≤ 65536) × (i + length (encode f.n n) ≤ 2 * length buf.old) }
     ensures { (result ≡ i + length (encode f.n n)) × (buf.new ≡ put_all buf.old i (encode f.n n)) }
