@@ -5,6 +5,13 @@ ghost use Rattle.std.specs.Prelude.{ℕ, ◌-◌, ◌<◌, ◌≤◌, ◌≡◌,
 ghost use Rattle.std.specs.Iterator.{at_most};
 ghost use Rattle.cases.specs.Blocks.{block_at, NextCase};
 
+// A buffer to read the cases into. What stands in it is not said: a program's proof needs its length only.
+pub fn empty<const N: usize>() -> [u8; N]
+    ensures { N ≡ length result }
+{
+    [0; N]
+}
+
 // Where the bytes behind the head of so many bytes at `at` begin and end, if they are not cut off.
 pub fn block_at(s: &[u8], at: usize, head: usize) -> Option<(usize, usize)>
     requires { (at ≤ length s.now) × (4 ≤ head) }
