@@ -3,21 +3,16 @@
 #![tactic(auto)]
 
 use cases::{Case, Cases};
-use font::Checked;
+use refusals::Refused;
 use std::io;
 use std::io::Write;
 
 // The line of an answer.
-fn print_line<W: Write>(out: &mut W, checked: Checked) -> io::Result<()> {
+fn print_line<W: Write>(out: &mut W, checked: Result<usize, Refused>) -> io::Result<()> {
     match checked {
-        Checked::Chars(n) => {
-            write!(out, "ok {n}")?;
-        }
-        Checked::Refused(x, at) => {
-            lines::print_refusal(out, x, at)?;
-        }
+        Ok(n) => writeln!(out, "ok {n}"),
+        Err(x) => writeln!(out, "{x}"),
     }
-    out.write_all(b"\n")
 }
 
 // Each font of the cases.

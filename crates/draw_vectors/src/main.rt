@@ -5,8 +5,8 @@
 #![tactic(auto)]
 
 use cases::{Case, Cases};
-use glyph::Drawn;
 use measures::Measures;
+use refusals::Refused;
 use std::io;
 use std::io::Write;
 
@@ -17,9 +17,13 @@ fn print_measures<W: Write>(out: &mut W, m: Measures) -> io::Result<()> {
 }
 
 // The line of an answer.
-fn print_line<W: Write>(out: &mut W, drawn: Drawn, pixels: &[u8]) -> io::Result<()> {
+fn print_line<W: Write>(
+    out: &mut W,
+    drawn: Result<Measures, Refused>,
+    pixels: &[u8],
+) -> io::Result<()> {
     match drawn {
-        Drawn::Measured(m) => {
+        Ok(m) => {
             print_measures(out, m)?;
             lines::print_marked(
                 out,
@@ -27,8 +31,8 @@ fn print_line<W: Write>(out: &mut W, drawn: Drawn, pixels: &[u8]) -> io::Result<
                 lines::area(sign::magnitude(m.w), sign::magnitude(m.h)),
             )?;
         }
-        Drawn::Refused(x, at) => {
-            lines::print_refusal(out, x, at)?;
+        Err(x) => {
+            write!(out, "{x}")?;
             lines::print_touched(out, pixels)?;
         }
     }

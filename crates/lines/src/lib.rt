@@ -1,11 +1,10 @@
-// What the programs print: refusals, and the mark that stands for many bytes; and the buffer that they lend.
+// What the programs print: the mark that stands for many bytes; and the buffer that they lend.
 #![tactic(auto)]
 
 ghost use Rattle.std.specs.Prelude.{◌≡◌, ◌<◌, ◌≤◌, length, take, OnOk, IfOk};
 ghost use Rattle.std.specs.Io.KnownBytes.{Consumes, IsAtEnd};
 ghost use Rattle.lines.specs.Marks.{marked, area_of};
 
-use refusals::Refusal;
 use std::io;
 use std::io::{Read, Write};
 
@@ -14,11 +13,6 @@ const OLD: u8 = 170;
 
 // The most room of a case.
 pub const ROOM: usize = 65600;
-
-// A refusal's number and place.
-pub fn print_refusal<W: Write>(out: &mut W, x: Refusal, place: usize) -> io::Result<()> {
-    write!(out, "refuse {} {}", x.0, place)
-}
 
 // The mark over bytes: begin with 1, and for each byte b make it (mark * 257 + b) mod 65,521.
 #[tactic(auto, using(crate::proofs::MarkLaws::marking_start, crate::proofs::MarkLaws::marking_step, crate::proofs::MarkLaws::marking_end))]

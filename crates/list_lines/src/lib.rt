@@ -3,7 +3,7 @@
 
 ghost use Rattle.listing.specs.Listed.{Between};
 
-use listing::{Entry, Form, Heading, Listed, Next};
+use listing::{Entry, Heading};
 use measures::Measures;
 use std::io;
 use std::io::{Read, Write};
@@ -16,16 +16,6 @@ fn print_heading<W: Write>(out: &mut W, h: Heading) -> io::Result<()> {
     writeln!(out, "hppp={}", h.hppp)?;
     writeln!(out, "vppp={}", h.vppp)?;
     writeln!(out, "chars={}", h.chars)
-}
-
-// The line of a packet's form.
-fn print_form<W: Write>(out: &mut W, form: Form) -> io::Result<()> {
-    out.write_all(b"form=")?;
-    match form {
-        Form::Short => out.write_all(b"short\n"),
-        Form::Extended => out.write_all(b"extended\n"),
-        Form::Long => out.write_all(b"long\n"),
-    }
 }
 
 // The lines of a packet's measures behind its code.
@@ -43,7 +33,7 @@ fn print_measures<W: Write>(out: &mut W, m: Measures) -> io::Result<()> {
 fn print_entry<W: Write>(out: &mut W, e: Entry) -> io::Result<()> {
     writeln!(out, "at={}", e.at)?;
     writeln!(out, "code={}", e.m.code)?;
-    print_form(out, e.form)?;
+    writeln!(out, "form={}", e.form)?;
     writeln!(out, "dyn={}", e.f)?;
     writeln!(out, "first={}", u8::from(e.black))?;
     print_measures(out, e.m)
@@ -54,27 +44,24 @@ fn print_packets<W: Write>(out: &mut W, font: &[u8], first: usize) -> io::Result
     requires { Between font.now first }
 {
     let mut at = first;
-    loop {
-        let n = listing::next_packet(font, at);
-        let Next::Packet(e, to) = n else {
-            return Ok(());
-        };
+    while let Some((e, to)) = listing::next_packet(font, at) {
         print_entry(out, e)?;
         at = to;
     }
+    Ok(())
 }
 
 // The whole listing of a font; of a refused one its refusal and its place, and nothing else.
 #[tactic(auto, using(listing::proofs::NextLaws::starts_on))]
 pub fn print_listing<W: Write>(out: &mut W, font: &[u8]) -> io::Result<()> {
     match listing::list_font(font) {
-        Listed::Font(h, first) => {
+        Ok((h, first)) => {
             print_heading(out, h)?;
             print_packets(out, font, first)
         }
-        Listed::Refused(x, place) => {
-            writeln!(out, "refusal={}", x.0)?;
-            writeln!(out, "at={place}")
+        Err(x) => {
+            writeln!(out, "refusal={}", x.refusal.number())?;
+            writeln!(out, "at={}", x.place)
         }
     }
 }

@@ -9,9 +9,8 @@ ghost use Rattle.std.specs.Prelude.{◌≤◌};
 
 use cases::{Case, Cases};
 use escapement::Scaled;
-use glyph::Drawn;
 use measures::Measures;
-use pack::Packed;
+use refusals::Refused;
 use std::io;
 use std::io::Write;
 
@@ -22,14 +21,18 @@ const BITMAP_HEAD: usize = 73;
 const FONT_HEAD: usize = 5;
 
 // The line of an answer.
-fn print_line<W: Write>(out: &mut W, packed: Packed, bytes: &[u8]) -> io::Result<()> {
+fn print_line<W: Write>(
+    out: &mut W,
+    packed: Result<usize, Refused>,
+    bytes: &[u8],
+) -> io::Result<()> {
     match packed {
-        Packed::Length(n) => {
+        Ok(n) => {
             write!(out, "ok {n}")?;
             lines::print_marked(out, bytes, n)?;
         }
-        Packed::Refused(x, at) => {
-            lines::print_refusal(out, x, at)?;
+        Err(x) => {
+            write!(out, "{x}")?;
             lines::print_touched(out, bytes)?;
         }
     }
@@ -59,10 +62,9 @@ fn pack_again<W: Write>(out: &mut W, pixels: &[u8], code: usize, m: Measures) ->
 // A code of a font drawn, and packed again.
 fn repack<W: Write>(out: &mut W, font: &[u8], code: usize) -> io::Result<()> {
     let mut pixels = lines::old_bytes();
-    let drawn = draw::draw(font, code, &mut pixels);
-    match drawn {
-        Drawn::Measured(m) => pack_again(out, &pixels, code, m),
-        Drawn::Refused(_, _) => Ok(()),
+    match draw::draw(font, code, &mut pixels) {
+        Ok(m) => pack_again(out, &pixels, code, m),
+        Err(_) => Ok(()),
     }
 }
 
