@@ -3,9 +3,8 @@
 
 ghost use Rattle.std.specs.Prelude.{◌<◌};
 
-use glyph::Drawn;
 use measures::Measures;
-use refusals::Refusal;
+use refusals::{Refusal, Refused};
 use std::fs::File;
 use std::io::Write;
 use std::rt::Files;
@@ -83,16 +82,16 @@ fn print_picture<O: Write, E: Write>(
     }
 }
 
-// Why nothing is drawn, in a line: 16 is said in words.
-fn say_refused<E: Write>(err: &mut E, x: Refusal, place: usize, code: usize) -> io::Result<()> {
-    if x.0 == 16 {
-        writeln!(err, "look: the font has no character {code}")
-    } else {
-        let number = x.0;
-        writeln!(
+// Why nothing is drawn, in a line: that the font lacks the code is said in words.
+fn say_refused<E: Write>(err: &mut E, x: Refused, code: usize) -> io::Result<()> {
+    match x.refusal {
+        Refusal::NoSuchCode => writeln!(err, "look: the font has no character {code}"),
+        refusal => writeln!(
             err,
-            "look: the font is refused, number {number} of document 01, at byte {place}"
-        )
+            "look: the font is refused, number {} of document 01, at byte {}",
+            refusal.number(),
+            x.place
+        ),
     }
 }
 
@@ -108,8 +107,8 @@ fn show<O: Write, E: Write>(
     let buf: &mut [u8] = &mut pixels;
     let drawn = draw::draw(font, code, buf);
     match drawn {
-        Drawn::Measured(m) => print_picture(m, code, buf, pbm, out, err),
-        Drawn::Refused(x, place) => say_refused(err, x, place, code),
+        Ok(m) => print_picture(m, code, buf, pbm, out, err),
+        Err(x) => say_refused(err, x, code),
     }
 }
 
