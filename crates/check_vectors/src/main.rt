@@ -2,48 +2,37 @@
 // `ok CHARS` or `refuse NUMBER PLACE`. A font that is cut off gets the line `bad case`.
 #![tactic(auto)]
 
-use cases::Block;
-use font::Checked;
+use cases::{Case, Cases};
+use refusals::Refused;
 use std::io;
 use std::io::Write;
 
 // The line of an answer.
-fn print_line<W: Write>(out: &mut W, checked: Checked) -> io::Result<()> {
+fn print_line<W: Write>(out: &mut W, checked: Result<usize, Refused>) -> io::Result<()> {
     match checked {
-        Checked::Chars(n) => {
-            write!(out, "ok {n}")?;
-        }
-        Checked::Refused(x, at) => {
-            lines::print_refusal(out, x, at)?;
-        }
+        Ok(n) => writeln!(out, "ok {n}"),
+        Err(x) => writeln!(out, "{x}"),
     }
-    out.write_all(b"\n")
 }
 
 // Each font of the cases.
-#[tactic(auto, using(cases::proofs::BlockLaws::whole_stands))]
-fn check_each<W: Write>(out: &mut W, cases: &[u8]) -> io::Result<()> {
-    let mut at: usize = 0;
-    while at < cases.len() {
-        let block = cases::block_at(cases, at, 4);
-        let Block::Whole(begin, end) = block else {
+fn check_each<W: Write>(out: &mut W, s: &[u8]) -> io::Result<()> {
+    for case in (Cases {
+        s,
+        at: 0,
+        head: |_| 4,
+    }) {
+        let Ok(Case { bytes, .. }) = case else {
             return lines::print_bad(out);
         };
-        print_line(out, font::check(&cases[begin..end]))?;
-        at = end;
+        print_line(out, font::check(bytes))?;
     }
     Ok(())
 }
 
-// A buffer for the cases.
-fn empty() -> [u8; 524288] {
-    [0; 524288]
-}
-
 // All cases of standard input.
 fn main(rt: HostRuntime) -> io::Result<()> {
-    let mut cases = empty();
-    let (n, read) = lines::read_full(&mut rt.reader(), &mut cases);
-    read?;
-    check_each(&mut io::writer(&rt), &cases[..n])
+    let mut room = cases::empty::<524288>();
+    let cases = lines::read_into(&mut rt.reader(), &mut room)?;
+    check_each(&mut io::writer(&rt), cases)
 }

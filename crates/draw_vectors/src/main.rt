@@ -4,37 +4,26 @@
 // `bad case`.
 #![tactic(auto)]
 
-ghost use Rattle.std.specs.Prelude.{◌≤◌, length};
-
-use cases::Block;
-use glyph::Drawn;
+use cases::{Case, Cases};
 use measures::Measures;
+use refusals::Refused;
 use std::io;
 use std::io::Write;
 
-// A number behind a space.
-fn print_next<W: Write>(out: &mut W, n: i64) -> io::Result<()> {
-    out.write_all(b" ")?;
-    lines::print_signed(out, n)
-}
-
 // The measures.
 fn print_measures<W: Write>(out: &mut W, m: Measures) -> io::Result<()> {
-    out.write_all(b"ok")?;
-    print_next(out, m.code)?;
-    print_next(out, m.w)?;
-    print_next(out, m.h)?;
-    print_next(out, m.tfm)?;
-    print_next(out, m.dx.0)?;
-    print_next(out, m.dy.0)?;
-    print_next(out, m.hoff)?;
-    print_next(out, m.voff)
+    write!(out, "ok {} {} {} {}", m.code, m.w, m.h, m.tfm)?;
+    write!(out, " {} {} {} {}", m.dx.0, m.dy.0, m.hoff, m.voff)
 }
 
 // The line of an answer.
-fn print_line<W: Write>(out: &mut W, drawn: Drawn, pixels: &[u8]) -> io::Result<()> {
+fn print_line<W: Write>(
+    out: &mut W,
+    drawn: Result<Measures, Refused>,
+    pixels: &[u8],
+) -> io::Result<()> {
     match drawn {
-        Drawn::Measured(m) => {
+        Ok(m) => {
             print_measures(out, m)?;
             lines::print_marked(
                 out,
@@ -42,9 +31,9 @@ fn print_line<W: Write>(out: &mut W, drawn: Drawn, pixels: &[u8]) -> io::Result<
                 lines::area(sign::magnitude(m.w), sign::magnitude(m.h)),
             )?;
         }
-        Drawn::Refused(x, at) => {
-            lines::print_refusal(out, x, at)?;
-            lines::print_touched(out, pixels, 0)?;
+        Err(x) => {
+            write!(out, "{x}")?;
+            lines::print_touched(out, pixels)?;
         }
     }
     out.write_all(b"\n")
@@ -60,7 +49,7 @@ fn draw_one<W: Write>(out: &mut W, font: &[u8], code: usize, room: usize) -> io:
     print_line(out, drawn, &pixels)
 }
 
-// The codes from first to last.
+// The codes from first to last, and the last alone if it is below the first.
 fn draw_codes<W: Write>(
     out: &mut W,
     font: &[u8],
@@ -68,48 +57,41 @@ fn draw_codes<W: Write>(
     last: usize,
     room: usize,
 ) -> io::Result<()> {
-    let mut code = first;
-    while code < last {
+    for code in first..last {
         draw_one(out, font, code, room)?;
-        code += 1;
     }
     draw_one(out, font, last, room)
 }
 
-// The font from begin to end; the codes to draw and the room stand before it.
-fn draw_case<W: Write>(out: &mut W, cases: &[u8], begin: usize, end: usize) -> io::Result<()>
-    requires { (16 ≤ begin) × (begin ≤ end) × (end ≤ length cases.now) }
-{
-    let first = fields::number_at(cases, begin - 16, 4) as usize;
-    let last = fields::number_at(cases, begin - 12, 4) as usize;
-    let room = fields::number_at(cases, begin - 8, 4) as usize;
-    draw_codes(out, &cases[begin..end], first, last, room)
+// A font; the codes to draw and the room stand in its head.
+fn draw_case<W: Write>(out: &mut W, case: Case) -> io::Result<()> {
+    let ([first, last, room, ..], _) = case.head.as_chunks::<4>() else {
+        return lines::print_bad(out);
+    };
+    let first = u32::from_be_bytes(*first) as usize;
+    let last = u32::from_be_bytes(*last) as usize;
+    let room = u32::from_be_bytes(*room) as usize;
+    draw_codes(out, case.bytes, first, last, room)
 }
 
 // Each case.
-#[tactic(auto, using(cases::proofs::BlockLaws::whole_stands))]
-fn draw_each<W: Write>(out: &mut W, cases: &[u8]) -> io::Result<()> {
-    let mut at: usize = 0;
-    while at < cases.len() {
-        let block = cases::block_at(cases, at, 16);
-        let Block::Whole(begin, end) = block else {
+fn draw_each<W: Write>(out: &mut W, s: &[u8]) -> io::Result<()> {
+    for case in (Cases {
+        s,
+        at: 0,
+        head: |_| 16,
+    }) {
+        let Ok(case) = case else {
             return lines::print_bad(out);
         };
-        draw_case(out, cases, begin, end)?;
-        at = end;
+        draw_case(out, case)?;
     }
     Ok(())
 }
 
-// A buffer for the cases.
-fn empty() -> [u8; 524288] {
-    [0; 524288]
-}
-
 // All cases of standard input.
 fn main(rt: HostRuntime) -> io::Result<()> {
-    let mut cases = empty();
-    let (n, read) = lines::read_full(&mut rt.reader(), &mut cases);
-    read?;
-    draw_each(&mut io::writer(&rt), &cases[..n])
+    let mut room = cases::empty::<524288>();
+    let cases = lines::read_into(&mut rt.reader(), &mut room)?;
+    draw_each(&mut io::writer(&rt), cases)
 }

@@ -1,12 +1,11 @@
--- The mark over bytes, one byte at a time, and the pixels of a bitmap in each case. Assumes nothing.
+-- The mark over bytes, one byte at a time. Assumes nothing.
 use Prim.Native.Nat.{ℕ, suc, ◌+◌, ◌*◌, ◌%◌, ◌≤◌, ◌<◌}
 use mathlib.Core.Path.{◌≡◌, refl, ◌∙◌}
 use mathlib.Core.List.{List}
 use native.Mathlib.Omega.{arith}
 use lib.ListN.{length, drop, get_or}
 use lib.Seq.{drop-cons, drop-length}
-use borrow.Author.Tests.{le-leb, lt-leb}
-use Rattle.lines.specs.Marks.{mark_after, marked, area_of}
+use Rattle.lines.specs.Marks.{mark_after, marked}
 
 -- The first i bytes came to m, and the others are still to be read.
 pub record Marking (s : List ℕ) (m i : ℕ) : Type 0 where
@@ -32,16 +31,3 @@ unfolding mark_after
 marking_end s m i x h =
     let e : i ≡ length s = omega arith in
     rw (x.rest, e, drop-length s) refl
-
--- Neither side is too long; the one is; the other.
-pub area_some : (w h : ℕ) → w ≤ 65536 → h ≤ 65536 → w * h ≡ area_of w h
-unfolding area_of
-area_some w h p q = rw (le-leb w 65536 p, le-leb h 65536 q) refl
-
-pub area_wide : (w h : ℕ) → 65536 < w → 0 ≡ area_of w h
-unfolding area_of
-area_wide w h p = rw (lt-leb w 65536 p) refl
-
-pub area_high : (w h : ℕ) → w ≤ 65536 → 65536 < h → 0 ≡ area_of w h
-unfolding area_of
-area_high w h p q = rw (le-leb w 65536 p, lt-leb h 65536 q) refl

@@ -1,11 +1,10 @@
-// What the programs print: signed numbers, refusals, and the mark that stands for many bytes; and the buffer that they lend.
+// What the programs print: the mark that stands for many bytes; and the buffer that they lend.
 #![tactic(auto)]
 
-ghost use Rattle.std.specs.Prelude.{◌≡◌, ◌<◌, ◌≤◌, length, take, OnOk};
+ghost use Rattle.std.specs.Prelude.{◌≡◌, ◌<◌, ◌≤◌, length, take, OnOk, IfOk};
 ghost use Rattle.std.specs.Io.KnownBytes.{Consumes, IsAtEnd};
 ghost use Rattle.lines.specs.Marks.{marked, area_of};
 
-use refusals::Refusal;
 use std::io;
 use std::io::{Read, Write};
 
@@ -15,30 +14,14 @@ const OLD: u8 = 170;
 // The most room of a case.
 pub const ROOM: usize = 65600;
 
-// A number in decimal, behind its sign if it is negative.
-pub fn print_signed<W: Write>(out: &mut W, n: i64) -> io::Result<()> {
-    if n < 0 {
-        out.write_all(b"-")?;
-        write!(out, "{}", sign::magnitude(n) + 1)
-    } else {
-        write!(out, "{}", sign::magnitude(n))
-    }
-}
-
-// A refusal's number and place.
-pub fn print_refusal<W: Write>(out: &mut W, x: Refusal, place: usize) -> io::Result<()> {
-    write!(out, "refuse {} {}", x.0, place)
-}
-
 // The mark over bytes: begin with 1, and for each byte b make it (mark * 257 + b) mod 65,521.
+#[tactic(auto, using(crate::proofs::MarkLaws::marking_start, crate::proofs::MarkLaws::marking_step, crate::proofs::MarkLaws::marking_end))]
 pub fn mark_of(bytes: &[u8]) -> usize
     ensures { result ≡ marked bytes.now }
 {
     let mut mark: usize = 1;
-    let mut i: usize = 0;
-    while i < bytes.len() {
-        mark = (mark * 257 + byte::wide(bytes[i])) % 65521;
-        i += 1;
+    for b in bytes {
+        mark = (mark * 257 + usize::from(*b)) % 65521;
     }
     mark
 }
@@ -50,39 +33,32 @@ pub fn old_bytes() -> [u8; ROOM]
     [OLD; ROOM]
 }
 
-// Says so if a byte from `at` on is not the old one.
-pub fn print_touched<W: Write>(out: &mut W, bytes: &[u8], at: usize) -> io::Result<()> {
-    let mut i = at;
-    while i < bytes.len() {
-        if bytes[i] != OLD {
-            return out.write_all(b" touched");
-        }
-        i += 1;
+// Says so if a byte is not the old one.
+pub fn print_touched<W: Write>(out: &mut W, bytes: &[u8]) -> io::Result<()> {
+    if bytes.iter().any(|b| *b != OLD) {
+        return out.write_all(b" touched");
     }
     Ok(())
 }
 
 // The mark of the first n bytes, and whether more was written.
 pub fn print_marked<W: Write>(out: &mut W, bytes: &[u8], n: usize) -> io::Result<()> {
-    if bytes.len() < n {
+    let Some((written, left)) = bytes.split_at_checked(n) else {
         return Ok(());
-    }
-    write!(out, " {}", mark_of(&bytes[..n]))?;
-    print_touched(out, bytes, n)
+    };
+    write!(out, " {}", mark_of(written))?;
+    print_touched(out, left)
 }
 
 // The pixels of w by h, and 0 where w or h is above 65,536.
-#[tactic(auto, using(crate::proofs::MarkLaws::area_some, crate::proofs::MarkLaws::area_wide, crate::proofs::MarkLaws::area_high))]
+#[tactic(auto, unfolding(crate::specs::Marks::area_of))]
 pub fn area(w: u64, h: u64) -> usize
     ensures { result ≡ area_of w h }
 {
-    if 65536 < w {
-        return 0;
+    if w <= 65536 && h <= 65536 {
+        return (w * h) as usize;
     }
-    if 65536 < h {
-        return 0;
-    }
-    (w * h) as usize
+    0
 }
 
 // A buffer filled from a reader as far as its input goes: how many bytes came, and how the reading ended.
@@ -100,6 +76,16 @@ pub fn read_full<R: Read>(reader: &mut R, buf: &mut [u8]) -> (usize, io::Result<
         }
     }
     (n, Ok(()))
+}
+
+// The bytes of a reader's input, as far as a buffer for them goes; an error of the reading is the answer.
+pub fn read_into<'a, R: Read>(reader: &mut R, buf: &'a mut [u8]) -> io::Result<&'a [u8]>
+    ensures bytes { IfOk result (λ s. Consumes (R.remaining reader.old) (R.remaining reader.new) s.now) }
+    ensures end { IfOk result (λ s. length s.now < length buf.old → IsAtEnd (R.remaining reader.new)) }
+{
+    let (n, read) = read_full(reader, buf);
+    read?;
+    Ok(&buf[..n])
 }
 
 // The line of a case that is cut short, or that asks for too much room.

@@ -2,32 +2,31 @@
 // that of a file that is one byte too long, whose first 65,536 bytes are a font. A font that is cut off gets the line `bad case`.
 #![tactic(auto)]
 
-use cases::Block;
+use cases::{Case, Cases};
 use std::fs::File;
 use std::io;
 use std::io::Write;
 
 // Each font of the cases.
-#[tactic(auto, using(cases::proofs::BlockLaws::whole_stands))]
-fn list_each<W: Write>(out: &mut W, cases: &[u8]) -> io::Result<()> {
-    let mut at: usize = 0;
-    while at < cases.len() {
-        let block = cases::block_at(cases, at, 4);
-        let Block::Whole(begin, end) = block else {
+fn list_each<W: Write>(out: &mut W, s: &[u8]) -> io::Result<()> {
+    for case in (Cases {
+        s,
+        at: 0,
+        head: |_| 4,
+    }) {
+        let Ok(Case { bytes, .. }) = case else {
             return lines::print_bad(out);
         };
-        list_lines::print_listing(out, &cases[begin..end])?;
-        at = end;
+        list_lines::print_listing(out, bytes)?;
     }
     Ok(())
 }
 
 // All cases of standard input, and the file.
 fn main(rt: HostRuntime) -> io::Result<()> {
-    let mut cases = [0u8; 262144];
-    let (n, read) = lines::read_full(&mut rt.reader(), &mut cases);
-    read?;
+    let mut room = cases::empty::<262144>();
+    let cases = lines::read_into(&mut rt.reader(), &mut room)?;
     let mut out = io::writer(&rt);
-    list_each(&mut out, &cases[..n])?;
+    list_each(&mut out, cases)?;
     list_lines::list_from(&mut File::open(&rt, "long.pk")?, &mut out)
 }

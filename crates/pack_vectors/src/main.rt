@@ -5,13 +5,12 @@
 // must stay. A case that is cut off, or that has more room than the program's buffer, gets the line `bad case`.
 #![tactic(auto)]
 
-ghost use Rattle.std.specs.Prelude.{◌+◌, ◌≤◌, length};
+ghost use Rattle.std.specs.Prelude.{◌≤◌};
 
-use cases::Block;
+use cases::{Case, Cases};
 use escapement::Scaled;
-use glyph::Drawn;
 use measures::Measures;
-use pack::Packed;
+use refusals::Refused;
 use std::io;
 use std::io::Write;
 
@@ -22,48 +21,22 @@ const BITMAP_HEAD: usize = 73;
 const FONT_HEAD: usize = 5;
 
 // The line of an answer.
-fn print_line<W: Write>(out: &mut W, packed: Packed, bytes: &[u8]) -> io::Result<()> {
+fn print_line<W: Write>(
+    out: &mut W,
+    packed: Result<usize, Refused>,
+    bytes: &[u8],
+) -> io::Result<()> {
     match packed {
-        Packed::Length(n) => {
+        Ok(n) => {
             write!(out, "ok {n}")?;
             lines::print_marked(out, bytes, n)?;
         }
-        Packed::Refused(x, at) => {
-            lines::print_refusal(out, x, at)?;
-            lines::print_touched(out, bytes, 0)?;
+        Err(x) => {
+            write!(out, "{x}")?;
+            lines::print_touched(out, bytes)?;
         }
     }
     out.write_all(b"\n")
-}
-
-// The eight bytes from at on in two's complement.
-fn long_at(s: &[u8], at: usize) -> i64
-    requires { at + 8 ≤ length s.now }
-{
-    let high = fields::number_at(s, at, 4);
-    let low = fields::number_at(s, at + 4, 4);
-    let n = high * 4294967296 + low;
-    if n < 9223372036854775808 {
-        n as i64
-    } else {
-        -1 - (18446744073709551615 - n) as i64
-    }
-}
-
-// The measures from at on.
-fn measures_from(s: &[u8], at: usize) -> Measures
-    requires { at + 64 ≤ length s.now }
-{
-    Measures {
-        code: long_at(s, at),
-        w: long_at(s, at + 8),
-        h: long_at(s, at + 16),
-        tfm: long_at(s, at + 24),
-        dx: Scaled(long_at(s, at + 32)),
-        dy: Scaled(long_at(s, at + 40)),
-        hoff: long_at(s, at + 48),
-        voff: long_at(s, at + 56),
-    }
 }
 
 // A bitmap packed into a buffer of so much room.
@@ -79,44 +52,48 @@ fn pack_one<W: Write>(out: &mut W, bitmap: &[u8], m: Measures, room: usize) -> i
 // The pixels of a drawn code, packed again.
 fn pack_again<W: Write>(out: &mut W, pixels: &[u8], code: usize, m: Measures) -> io::Result<()> {
     let n = lines::area(sign::magnitude(m.w), sign::magnitude(m.h));
-    if pixels.len() < n {
+    let Some(bitmap) = pixels.get(..n) else {
         return Ok(());
-    }
+    };
     write!(out, "{code} ")?;
-    pack_one(out, &pixels[..n], m, lines::ROOM)
+    pack_one(out, bitmap, m, lines::ROOM)
 }
 
 // A code of a font drawn, and packed again.
 fn repack<W: Write>(out: &mut W, font: &[u8], code: usize) -> io::Result<()> {
     let mut pixels = lines::old_bytes();
-    let drawn = draw::draw(font, code, &mut pixels);
-    match drawn {
-        Drawn::Measured(m) => pack_again(out, &pixels, code, m),
-        Drawn::Refused(_, _) => Ok(()),
+    match draw::draw(font, code, &mut pixels) {
+        Ok(m) => pack_again(out, &pixels, code, m),
+        Err(_) => Ok(()),
     }
 }
 
 // Each code of a font.
 fn repack_each<W: Write>(out: &mut W, font: &[u8]) -> io::Result<()> {
-    let mut code: usize = 0;
-    while code < 256 {
+    for code in 0..256 {
         repack(out, font, code)?;
-        code += 1;
     }
     Ok(())
 }
 
-// The bitmap from begin to end, packed; its measures and the room stand before it.
-fn bitmap_case<W: Write>(out: &mut W, cases: &[u8], begin: usize, end: usize) -> io::Result<()>
-    requires { (72 ≤ begin) × (begin ≤ end) × (end ≤ length cases.now) }
-{
-    let room = fields::number_at(cases, begin - 8, 4) as usize;
-    pack_one(
-        out,
-        &cases[begin..end],
-        measures_from(cases, begin - 72),
-        room,
-    )
+// A bitmap packed; its measures and the room stand behind the first byte of its head.
+fn bitmap_case<W: Write>(out: &mut W, fields: &[u8], bitmap: &[u8]) -> io::Result<()> {
+    let ([code, w, h, tfm, dx, dy, hoff, voff, [a, b, c, d, ..]], _) = fields.as_chunks::<8>()
+    else {
+        return lines::print_bad(out);
+    };
+    let m = Measures {
+        code: i64::from_be_bytes(*code),
+        w: i64::from_be_bytes(*w),
+        h: i64::from_be_bytes(*h),
+        tfm: i64::from_be_bytes(*tfm),
+        dx: Scaled(i64::from_be_bytes(*dx)),
+        dy: Scaled(i64::from_be_bytes(*dy)),
+        hoff: i64::from_be_bytes(*hoff),
+        voff: i64::from_be_bytes(*voff),
+    };
+    let room = u32::from_be_bytes([*a, *b, *c, *d]) as usize;
+    pack_one(out, bitmap, m, room)
 }
 
 // How many bytes the head of a case has that begins with this byte.
@@ -127,34 +104,26 @@ fn head_of(kind: u8) -> usize
 }
 
 // Each case.
-#[tactic(auto, using(cases::proofs::BlockLaws::whole_stands))]
-fn pack_each<W: Write>(out: &mut W, cases: &[u8]) -> io::Result<()> {
-    let mut at: usize = 0;
-    while at < cases.len() {
-        let head = head_of(cases[at]);
-        let block = cases::block_at(cases, at, head);
-        let Block::Whole(begin, end) = block else {
+fn pack_each<W: Write>(out: &mut W, s: &[u8]) -> io::Result<()> {
+    for case in (Cases {
+        s,
+        at: 0,
+        head: head_of,
+    }) {
+        let Ok(Case { head, bytes }) = case else {
             return lines::print_bad(out);
         };
-        if head == BITMAP_HEAD {
-            bitmap_case(out, cases, begin, end)?;
-        } else {
-            repack_each(out, &cases[begin..end])?;
+        match head.split_first() {
+            Some((1, fields)) => bitmap_case(out, fields, bytes)?,
+            _ => repack_each(out, bytes)?,
         }
-        at = end;
     }
     Ok(())
 }
 
-// A buffer for the cases.
-fn empty() -> [u8; 524288] {
-    [0; 524288]
-}
-
 // All cases of standard input.
 fn main(rt: HostRuntime) -> io::Result<()> {
-    let mut cases = empty();
-    let (n, read) = lines::read_full(&mut rt.reader(), &mut cases);
-    read?;
-    pack_each(&mut io::writer(&rt), &cases[..n])
+    let mut room = cases::empty::<524288>();
+    let cases = lines::read_into(&mut rt.reader(), &mut room)?;
+    pack_each(&mut io::writer(&rt), cases)
 }

@@ -17,6 +17,12 @@ pub struct Run {
     pub repeat: u32,
 }
 
+// No run.
+const NONE: Run = Run {
+    length: 0,
+    repeat: 0,
+};
+
 // The first n of the runs are kept, and the cursor is behind them. A full part is not taken for the whole list.
 #[derive(Drop)]
 pub struct Part {
@@ -30,12 +36,8 @@ impl Part {
     pub fn new() -> Part
         ensures { result.n ≡ ROOM }
     {
-        let none = Run {
-            length: 0,
-            repeat: 0,
-        };
         Part {
-            runs: [none; ROOM],
+            runs: [NONE; ROOM],
             n: ROOM,
             cursor: walk::start(),
         }

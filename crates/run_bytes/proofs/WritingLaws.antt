@@ -2,10 +2,9 @@
 use Prim.Native.Nat.{ℕ, zero, suc, ◌+◌, ◌*◌, ◌/◌, ◌≤◌, ◌<◌}
 use mathlib.Core.Path.{◌≡◌, refl, sym, ap, ◌∙◌}
 use mathlib.Core.List.{List, [], ◌∷◌, ◌++◌, append_assoc, append-nil}
-use native.Mathlib.Decide.{dec_le}
-use native.Mathlib.Numerals.{add-one}
 use native.Mathlib.Omega.{arith}
 use lib.ListN.{length, take, drop, get_or, length-append}
+use Rattle.std.proofs.lemmas.List.{take_more, take-append-drop}
 use Rattle.format.specs.Packed.{encode}
 use Rattle.format.specs.Rasters.{Item, run, written, writings}
 use Rattle.format.specs.Counts.{before}
@@ -14,8 +13,9 @@ use Rattle.format.proofs.HalfLaws.{length-halves}
 use Rattle.walk.specs.declared.Cursor.{Cursor}
 use Rattle.walk.specs.Walk.{items_left, begin}
 use Rattle.part.specs.declared.Part.{Part}
-use Rattle.part.specs.Parts.{kept, Runs, Kept}
-use Rattle.part.proofs.KeptLaws.{kept_more}
+use Rattle.part.specs.declared.Run.{Run}
+use Rattle.part.specs.Parts.{kept, taken, Kept}
+use Rattle.part.proofs.KeptLaws.{kept-append, kept_one}
 use Rattle.emit.specs.Nybbles.{put_one, put_all}
 use Rattle.emit.proofs.PutLaws.{length_puts, put_append, put_one_lem, put_halves}
 use Rattle.run_bytes.specs.Put.{Room, Put}
@@ -93,15 +93,17 @@ writings-append f [] js = refl
 writings-append f (i ∷ is) js = ap (λ (x : List ℕ). written f i ++ x) (writings-append f is js) ∙ sym (append_assoc (written f i) (writings f is) (writings f js))
 
 -- The nybbles of one run more, and those of some of the runs are no more than those of all.
-writings_kept : (f j : ℕ) (ls rs : List ℕ) → writings f (kept (j + 1) ls rs) ≡ writings f (kept j ls rs) ++ writings f (before (get_or rs j 0) (run (get_or ls j 0) ∷ []))
-writings_kept f j ls rs = ap (writings f) (kept_more j ls rs) ∙ writings-append f (kept j ls rs) (before (get_or rs j 0) (run (get_or ls j 0) ∷ []))
+writings_kept : (f j : ℕ) (rs : List Run) (d : Run) → j < length rs → writings f (kept (take (j + 1) rs)) ≡ writings f (kept (take j rs)) ++ writings f (before (get_or rs j d).repeat (run (get_or rs j d).length ∷ []))
+writings_kept f j rs d h =
+    ap (λ (xs : List Run). writings f (kept xs)) (take_more rs j d h)
+    ∙ ap (writings f) (kept-append (take j rs) (get_or rs j d ∷ []) ∙ ap (λ (is : List Item). kept (take j rs) ++ is) (kept_one (get_or rs j d)))
+    ∙ writings-append f (kept (take j rs)) (before (get_or rs j d).repeat (run (get_or rs j d).length ∷ []))
 
-kept_long : (f j n : ℕ) (ls rs : List ℕ) → j ≤ n → length (writings f (kept j ls rs)) ≤ length (writings f (kept n ls rs))
-kept_long f j zero ls rs h = let e : j ≡ 0 = omega arith in rw e (omega arith)
-kept_long f j (suc n) ls rs h = elim (dec_le j n) [
-  | yes l ↦ omega (arith, kept_long f j n ls rs l, rw (add-one n) at (ap length (writings_kept f n ls rs)), length-append (writings f (kept n ls rs)) (writings f (before (get_or rs n 0) (run (get_or ls n 0) ∷ []))))
-  | no l ↦ (let e : j ≡ suc n = omega arith in rw e (omega arith))
-]
+kept_long : (f j : ℕ) (rs : List Run) → length (writings f (kept (take j rs))) ≤ length (writings f (kept rs))
+kept_long f j rs =
+    let e : writings f (kept (take j rs ++ drop j rs)) ≡ writings f (kept rs) = ap (λ (xs : List Run). writings f (kept xs)) (take-append-drop j rs) in
+    let q : writings f (kept (take j rs ++ drop j rs)) ≡ writings f (kept (take j rs)) ++ writings f (kept (drop j rs)) = ap (writings f) (kept-append (take j rs) (drop j rs)) ∙ writings-append f (kept (take j rs)) (kept (drop j rs)) in
+    omega (arith, ap length e, ap length q, length-append (writings f (kept (take j rs))) (writings f (kept (drop j rs))))
 
 -- The buffer stays as long; nybbles behind nybbles.
 pub put_same : {d after xs : List ℕ} {i r : ℕ} → Put d i xs r after → length after ≡ length d
@@ -114,55 +116,54 @@ put_then {d} {now} {then} {xs} {ys} {i} p q = record {
 }
 
 -- No run of a part is written; the next one is as write_run asks it, and is written.
-pub part_none : (d : List ℕ) (i f : ℕ) (ls rs : List ℕ) → Put d i (writings f (kept 0 ls rs)) i d
+pub part_none : (d : List ℕ) (i f : ℕ) (rs : List Run) → Put d i (writings f (kept (take 0 rs))) i d
 unfolding kept writings
-part_none d i f ls rs = record { place = omega arith; is = sym (put_none d i) }
+part_none d i f rs = record { place = omega arith; is = sym (put_none d i) }
 
-module _ (f : ℕ) {n j i to : ℕ} {d now ls rs : List ℕ} (p : Put d i (writings f (kept j ls rs)) to now) (g : Runs n ls rs) (l : j < n) where
-  pub part_asks : f ≤ 13 → Room d i (writings f (kept n ls rs))
-      → (f ≤ 13) × (1 ≤ get_or ls j 0) × (get_or ls j 0 ≤ 65536) × (get_or rs j 0 ≤ 65536) × Room now to (writings f (before (get_or rs j 0) (run (get_or ls j 0) ∷ [])))
-  part_asks h m =
-      let xs = writings f (kept j ls rs) in
-      (h, g.some j l, g.many j l, g.few j l, omega (arith, p.place, put_same p, kept_long f (j + 1) n ls rs (omega arith), ap length (writings_kept f j ls rs), length-append xs (writings f (before (get_or rs j 0) (run (get_or ls j 0) ∷ [])))))
+module _ (f : ℕ) {j i to : ℕ} {d now : List ℕ} (rs : List Run) (p : Put d i (writings f (kept (take j rs))) to now) (l : j < length rs) where
+  pub part_room : (r : Run) → Room d i (writings f (kept rs)) → Room now to (writings f (before (get_or rs j r).repeat (run (get_or rs j r).length ∷ [])))
+  part_room r m =
+      let xs = writings f (kept (take j rs)) in
+      omega (arith, p.place, put_same p, kept_long f (j + 1) rs, ap length (writings_kept f j rs r l), length-append xs (writings f (before (get_or rs j r).repeat (run (get_or rs j r).length ∷ []))))
 
-  pub part_more : {r : ℕ} {then : List ℕ} → Put now to (writings f (before (get_or rs j 0) (run (get_or ls j 0) ∷ []))) r then → Put d i (writings f (kept (j + 1) ls rs)) r then
-  part_more q = rw (writings_kept f j ls rs) (put_then p q)
+  pub part_more : (r : Run) {n : ℕ} {then : List ℕ} → Put now to (writings f (before (get_or rs j r).repeat (run (get_or rs j r).length ∷ []))) n then → Put d i (writings f (kept (take (j + 1) rs))) n then
+  part_more r q = rw (writings_kept f j rs r l) (put_then p q)
 
 -- Part after part.
 
 -- Of the items to be written from i on into d, those left where the part p begins are left, from the nybble at `to` on.
-pub record Writing (b : List ℕ) (w f : ℕ) (d : List ℕ) (i : ℕ) (now : List ℕ) (to : ℕ) (ls rs : List ℕ) (p : Part) : Type 0 where
+pub record Writing (b : List ℕ) (w f : ℕ) (d : List ℕ) (i : ℕ) (now : List ℕ) (to : ℕ) (p : Part) : Type 0 where
   pub from : Cursor
-  pub part : Kept b w from ls rs p
+  pub part : Kept b w from p
   pub place : to + length (writings f (items_left b w from)) ≡ i + length (writings f (items_left b w begin))
   pub room : Room d i (writings f (items_left b w begin))
   pub same : length now ≡ length d
   pub is : put_all d i (writings f (items_left b w begin)) ≡ put_all now to (writings f (items_left b w from))
 
-pub writing_start : {b : List ℕ} {w f i : ℕ} {d ls rs : List ℕ} {p : Part} → Kept b w begin ls rs p → Room d i (writings f (items_left b w begin)) → Writing b w f d i d i ls rs p
+pub writing_start : {b : List ℕ} {w f i : ℕ} {d : List ℕ} {p : Part} → Kept b w begin p → Room d i (writings f (items_left b w begin)) → Writing b w f d i d i p
 writing_start g m = record { from = begin; part = g; place = refl; room = m; same = refl; is = refl }
 
-module _ {b : List ℕ} {w f i to : ℕ} {d now ls rs : List ℕ} {p : Part} (s : Writing b w f d i now to ls rs p) where
+module _ {b : List ℕ} {w f i to : ℕ} {d now : List ℕ} (p : Part) (s : Writing b w f d i now to p) where
   -- What is left: the part, and what is left behind it.
-  left_is : writings f (items_left b w s.from) ≡ writings f (kept p.n ls rs) ++ writings f (items_left b w p.cursor)
-  left_is = ap (writings f) s.part.walked.items ∙ writings-append f (kept p.n ls rs) (items_left b w p.cursor)
+  left_is : writings f (items_left b w s.from) ≡ writings f (kept (taken p)) ++ writings f (items_left b w p.cursor)
+  left_is = ap (writings f) s.part.walked.items ∙ writings-append f (kept (taken p)) (items_left b w p.cursor)
 
-  left_long : length (writings f (items_left b w s.from)) ≡ length (writings f (kept p.n ls rs)) + length (writings f (items_left b w p.cursor))
-  left_long = ap length left_is ∙ length-append (writings f (kept p.n ls rs)) (writings f (items_left b w p.cursor))
+  left_long : length (writings f (items_left b w s.from)) ≡ length (writings f (kept (taken p))) + length (writings f (items_left b w p.cursor))
+  left_long = ap length left_is ∙ length-append (writings f (kept (taken p))) (writings f (items_left b w p.cursor))
 
   -- The part is as write_part asks it.
-  pub writing_asks : f ≤ 13 → (f ≤ 13) × (p.n ≤ 512) × Runs p.n ls rs × Room now to (writings f (kept p.n ls rs))
-  writing_asks h = (h, s.part.walked.most, s.part.walked.runs, omega (arith, s.place, s.room, s.same, left_long))
+  pub writing_room : Room now to (writings f (kept (taken p)))
+  writing_room = omega (arith, s.place, s.room, s.same, left_long)
 
-  module _ {r : ℕ} {then : List ℕ} (q : Put now to (writings f (kept p.n ls rs)) r then) where
+  module _ {r : ℕ} {then : List ℕ} (q : Put now to (writings f (kept (taken p))) r then) where
     -- Once it is written, the rest is to be written.
     rest_is : put_all d i (writings f (items_left b w begin)) ≡ put_all then r (writings f (items_left b w p.cursor))
     rest_is =
-        let xs = writings f (kept p.n ls rs) in
+        let xs = writings f (kept (taken p)) in
         let ys = writings f (items_left b w p.cursor) in
         s.is ∙ ap (put_all now to) left_is ∙ put_append xs ys now to ∙ sym (rw (q.is, q.place) refl)
 
-    pub writing_more : {ks ms : List ℕ} {o : Part} → Kept b w p.cursor ks ms o → Writing b w f d i then r ks ms o
+    pub writing_more : {o : Part} → Kept b w p.cursor o → Writing b w f d i then r o
     writing_more g = record {
       from = p.cursor;
       part = g;

@@ -120,7 +120,7 @@ fn first_unlike<A: Against>(s: &[u8], n: usize, a: A) -> usize
         return unlike_in_word(s, n, a);
     }
     let last = n - 8;
-    for k in 0..last.div_ceil(8) {
+    for k in 0..(n - 1) / 8 {
         let i = 8 * k;
         let word = eight(s, i);
         let other = a.word(i);

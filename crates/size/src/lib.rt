@@ -29,6 +29,7 @@ fn above(most: u32, n: u32) -> u32
 }
 
 // 1, or 2 if n is above the most.
+// Kept: 1 + above(most, n) makes add_number slower by a sixth.
 fn one_or_two(most: u32, n: u32) -> u32
     requires { (most ≤ 131071) × (n ≤ 65536) }
     ensures { Few (1 + over most n) 2 result }
