@@ -7,14 +7,12 @@ pub heading_of-requires : goal.heading_of-requires
 heading_of-requires c = counted _ (bytes_fit _ c.type_inv.font) _ c.in_ok-n.ensures
 
 pub first_place-requires : goal.first_place-requires
-first_place-requires c =
-    let t = counted c.args.font.now (bytes_fit _ c.type_inv.font) _ c.in_ok-n.ensures in
-    (t.0, t.1)
+first_place-requires c = let t = counted c.args.font.now (bytes_fit _ c.type_inv.font) _ c.in_ok-n.ensures in (t.0, t.1)
 
 pub returns : goal.returns
 returns c =
-    let t = counted c.args.font.now (bytes_fit _ c.type_inv.font) _ c.in_ok-n.ensures in
-    let e = font_listed _ _ t _ _ c.heading_of.ensures c.first_place.ensures in
+    let u = counted c.args.font.now (bytes_fit _ c.type_inv.font) _ c.in_ok-n.ensures in
+    let e = font_listed _ _ u _ _ c.heading_of.ensures c.first_place.ensures in
     record { result_value = e.0; starts = e.1 }
 
 pub returns-in_err-n : goal.returns-in_err-n
