@@ -7,7 +7,7 @@ use native.Mathlib.Nat.{mul-le-mul_right, mul_assoc}
 use native.Mathlib.Numerals.{add-one}
 use native.Mathlib.Omega.{arith}
 use lib.Dec.{ltb}
-use lib.ListN.{length, take, drop, get_or, set, length-set, get_or-eq_default}
+use lib.ListN.{length, take, drop, get_or, set, length-set}
 use lib.Seq.{sets, sets-eq, drop-drop}
 use borrow.Author.Tests.{ltb-true}
 use Rattle.format.specs.Rasters.{bytes_of_bits}
@@ -25,12 +25,9 @@ pixel_small [] i h = omega arith
 pixel_small (x ∷ b) zero h = ltb-true x 2 (and_true (ltb x 2) (all_pixels b) h).0
 pixel_small (x ∷ b) (suc i) h = pixel_small b i (and_true (ltb x 2) (all_pixels b) h).1
 
--- A pixel of the bitmap, and one behind the last.
+-- A pixel of the bitmap.
 pub pixel_in : (b : List ℕ) (i r : ℕ) → all_pixels b ≡ true → r ≡ get_or b i 0 → PixelAt b i r
 pixel_in b i r h e = record { is = e; small = omega (arith, pixel_small b i h) }
-
-pub pixel_out : (b : List ℕ) (i : ℕ) → length b ≤ i → PixelAt b i 0
-pixel_out b i h = record { is = sym (get_or-eq_default b 0 {n = i} h); small = omega arith }
 
 -- One byte.
 
@@ -77,9 +74,6 @@ pub record Eight (b : List ℕ) (i v j k : ℕ) : Type 0 where
   pub room : suc v * 2 ^ k ≤ 256
   pub is : byte_of 0 8 (drop i b) ≡ byte_of v k (drop j b)
 
-pub eight_start : (b : List ℕ) (i : ℕ) → Eight b i 0 i 8
-eight_start b i = record { few = refl; room = omega arith; is = refl }
-
 pow_pos : (k : ℕ) → 1 ≤ 2 ^ k
 pow_pos zero = omega arith
 pow_pos (suc k) = let h = pow_pos k in omega arith
@@ -93,17 +87,16 @@ eight_small {v = v} {k = k} e =
     at_least_lem a (suc n) h = omega arith
     at_least_lem a zero h = absurd (omega arith)
 
-pub eight_more : {b : List ℕ} {i v j r : ℕ} (k : ℕ) → Eight b i v j k → 0 < k → PixelAt b j r → Eight b i (2 * v + r) (j + 1) (k - 1)
-eight_more zero e h p = absurd (omega arith)
-eight_more {b} {i} {v} {j} {r} (suc k) e h p =
-    let q : suc k - 1 ≡ k = omega arith in
-    let m = mul-le-mul_right {m = suc (2 * v + r)} {n = suc v * 2} (2 ^ k) (omega (arith, p.small)) in
-    let t : 2 ^ suc k ≡ 2 * 2 ^ k = omega arith in
-    let u : suc v * 2 ^ suc k ≡ suc v * 2 * 2 ^ k = ap (λ (x : ℕ). suc v * x) t ∙ sym (mul_assoc (suc v) 2 (2 ^ k)) in
+pub eight_more : {b : List ℕ} {i v j k r : ℕ} (n : ℕ) → Eight b i v j k → k ≡ suc n → PixelAt b j r → Eight b i (2 * v + r) (j + 1) n
+eight_more {b} {i} {v} {j} {k} {r} n e q p =
+    let m = mul-le-mul_right {m = suc (2 * v + r)} {n = suc v * 2} (2 ^ n) (omega (arith, p.small)) in
+    let t : 2 ^ suc n ≡ 2 * 2 ^ n = omega arith in
+    let u : suc v * 2 ^ suc n ≡ suc v * 2 * 2 ^ n = ap (λ (x : ℕ). suc v * x) t ∙ sym (mul_assoc (suc v) 2 (2 ^ n)) in
+    let h : suc v * 2 ^ suc n ≤ 256 = rw (← q) e.room in
     record {
       few = omega (arith, e.few);
-      room = rw q (omega (arith, e.room));
-      is = e.is ∙ byte_step b v k j ∙ rw (q, add-one j, p.is) refl;
+      room = omega arith;
+      is = e.is ∙ ap (λ (x : ℕ). byte_of v x (drop j b)) q ∙ byte_step b v n j ∙ rw (add-one j, p.is) refl;
     }
 
 pub eight_end : {b : List ℕ} {i v j k : ℕ} → Eight b i v j k → k ≡ 0 → (v ≡ byte_of 0 8 (drop i b)) × (v < 256)
@@ -123,23 +116,15 @@ pub record Bits (b l : List ℕ) (at : ℕ) (d : List ℕ) (i to : ℕ) : Type 0
   pub same : length d ≡ length l
   pub is : sets l at (bit_bytes (bytes_of_bits (length b)) b) ≡ sets d to (bytes_from b i)
 
-pub bits_start : (b l : List ℕ) (at : ℕ) → at + bytes_of_bits (length b) ≤ length l → Bits b l at l 0 at
-bits_start b l at h =
-    let e : length b - 0 ≡ length b = omega arith in
-    record { place = rw e refl; room = h; same = refl; is = rw e refl }
-
 bytes_step : (b : List ℕ) (i : ℕ) → i < length b → bytes_from b i ≡ byte_of 0 8 (drop i b) ∷ bytes_from b (i + 8)
 unfolding bit_bytes
 bytes_step b i h =
     let e : bytes_of_bits (length b - i) ≡ suc (bytes_of_bits (length b - (i + 8))) = omega arith in
     rw (e, drop-drop 8 i b) refl
 
-pub bits_room : {b l : List ℕ} {at : ℕ} {d : List ℕ} {i to : ℕ} → Bits b l at d i to → i < length b → to < length d
-bits_room s h = omega (arith, s.place, s.room, s.same)
-
-pub bits_more : {b l : List ℕ} {at : ℕ} {d : List ℕ} {i to v : ℕ} → Bits b l at d i to → i < length b → v ≡ byte_of 0 8 (drop i b) → Bits b l at (set d to v) (i + 8) (to + 1)
-bits_more {b} {d = d} {i = i} {to = to} {v = v} s h e =
-    record {
+pub bits_more : {b l : List ℕ} {at : ℕ} {d : List ℕ} {i to v : ℕ} (j next : ℕ) → Bits b l at d i to → i < length b → v ≡ byte_of 0 8 (drop i b) → j ≡ i + 8 → next ≡ to + 1 → Bits b l at (set d to v) j next
+bits_more {b} {d = d} {i = i} {to = to} {v = v} j next s h e p q =
+    rw (p, q) record {
       place = omega (arith, s.place);
       room = s.room;
       same = length-set d to v ∙ s.same;
@@ -147,9 +132,6 @@ bits_more {b} {d = d} {i = i} {to = to} {v = v} s h e =
     }
 
 -- All are written.
-pub bits_end : {b l : List ℕ} {at : ℕ} {d : List ℕ} {i to : ℕ} → Bits b l at d i to → length b ≤ i → to ≡ at + bytes_of_bits (length b)
-bits_end s h = omega (arith, s.place)
-
 pub bits_is : {b l : List ℕ} {at : ℕ} {d : List ℕ} {i to : ℕ} → Bits b l at d i to → length b ≤ i → d ≡ take at l ++ (bit_bytes (bytes_of_bits (length b)) b ++ drop to l)
 unfolding bit_bytes
 bits_is {b} {l} {at} {d} {i} {to} s h =

@@ -12,10 +12,7 @@ fn pixel_at(b: &[u8], i: usize) -> usize
     requires { all_pixels b.now ≡ true }
     ensures { PixelAt b.now i result }
 {
-    if i < b.len() {
-        return byte::wide(b[i]);
-    }
-    0
+    if i < b.len() { usize::from(b[i]) } else { 0 }
 }
 
 // Two pixels from i on as a number.
@@ -23,7 +20,7 @@ fn two(b: &[u8], i: usize) -> usize
     requires { (all_pixels b.now ≡ true) × (i + 2 ≤ length b.now) }
     ensures { (result ≡ 2 * get_or b.now i 0 + get_or b.now (i + 1) 0) × (result < 4) }
 {
-    2 * byte::wide(b[i]) + byte::wide(b[i + 1])
+    2 * usize::from(b[i]) + usize::from(b[i + 1])
 }
 
 // Eight pixels from i on as a byte, all of them there: no test for each.
@@ -43,12 +40,8 @@ fn eight(b: &[u8], i: usize) -> usize
         return whole(b, i);
     }
     let mut v: usize = 0;
-    let mut j = i;
-    let mut k: usize = 8;
-    while 0 < k {
+    for j in i..i + 8 {
         v = 2 * v + pixel_at(b, j);
-        j += 1;
-        k -= 1;
     }
     v
 }
@@ -59,13 +52,9 @@ pub fn write_bits(b: &[u8], buf: &mut [u8], at: usize) -> usize
     ensures value { result ≡ at + bytes_of_bits (length b.now) }
     ensures buf_after { buf.new ≡ take at buf.old ++ (bit_bytes (bytes_of_bits (length b.now)) b.now ++ drop result buf.old) }
 {
-    let mut i: usize = 0;
-    let mut to = at;
-    while i < b.len() {
-        let v = eight(b, i);
-        buf[to] = v as u8;
-        to += 1;
-        i += 8;
+    let n = b.len().div_ceil(8);
+    for k in 0..n {
+        buf[at + k] = eight(b, 8 * k) as u8;
     }
-    to
+    at + n
 }

@@ -1,25 +1,16 @@
 -- Laws of bits that are drawn: those of byte i stand at 8 i, so what is put there goes on with the picture. Assumes nothing.
-use Prim.Native.Nat.{ℕ, suc, ◌+◌, ◌*◌, ◌/◌, ◌%◌, ◌≤◌, ◌<◌}
+use Prim.Native.Nat.{ℕ, suc, ◌+◌, ◌*◌, ◌≤◌, ◌<◌}
 use mathlib.Core.Path.{◌≡◌, refl, sym, ap, ◌∙◌}
-use mathlib.Core.List.{List, [], ◌∷◌, ◌++◌}
-use native.Mathlib.Numerals.{add-one}
+use mathlib.Core.List.{List, ◌++◌}
 use native.Mathlib.Omega.{arith}
-use lib.ListN.{length, take, drop, get_or, set}
-use lib.Seq.{paste, paste-suc, length-take-le, take-append-le, take-add, take_at, drop_at, drop-cons, drop-drop}
+use lib.ListN.{length, take, drop, get_or}
+use lib.Seq.{paste, length-take-le, take-append-le, take-add, take_at, drop_at, drop-cons, drop-drop}
 use Rattle.format.specs.Rasters.{bits_of, bits}
 use Rattle.format.proofs.BitLaws.{length-bits, bits_behind}
 
 length_eight : (b : ℕ) → length (bits_of b) ≡ 8
 unfolding bits_of
 length_eight b = refl
-
-pub eight_is : (b : ℕ) → b / 128 % 2 ∷ b / 64 % 2 ∷ b / 32 % 2 ∷ b / 16 % 2 ∷ b / 8 % 2 ∷ b / 4 % 2 ∷ b / 2 % 2 ∷ b % 2 ∷ [] ≡ bits_of b
-unfolding bits_of
-eight_is b = refl
-
--- One bit more is put.
-pub put_more : (d b e : List ℕ) (at i : ℕ) → at + i < length d → i < length e → b ≡ paste d at e i → set b (at + i) (get_or e i 0) ≡ paste d at e (i + 1)
-put_more d b e at i h k p = rw (p, add-one i) (paste-suc d at e i 0 h k)
 
 -- The bits from byte i on.
 bits_from : (i : ℕ) (s : List ℕ) → i < length s → drop (8 * i) (bits s) ≡ bits_of (get_or s i 0) ++ bits (drop (suc i) s)

@@ -6,6 +6,7 @@ ghost use Rattle.std.proofs.Math.Seq.{paste};
 ghost use Rattle.format.specs.Rasters.{bits_of, bits};
 
 // The eight bits of a byte.
+#[tactic(auto, unfolding(format::specs::Rasters::bits_of))]
 fn eight(b: u8) -> [u8; 8]
     ensures { result ≡ bits_of b }
 {
@@ -26,11 +27,7 @@ fn put(buf: &mut [u8], at: usize, e: [u8; 8], k: usize)
     requires { (at + k ≤ length buf.old) × (k ≤ 8) }
     ensures { buf.new ≡ paste buf.old at e k }
 {
-    let mut i: usize = 0;
-    while i < k {
-        buf[at + i] = e[i];
-        i += 1;
-    }
+    buf[at..at + k].copy_from_slice(&e[..k]);
 }
 
 // The first n bits of s fill as many bytes; the bytes beyond stay.
@@ -39,16 +36,11 @@ pub fn draw_bits(s: &[u8], n: usize, buf: &mut [u8])
     ensures { buf.new ≡ take n (bits s.now) ++ drop n buf.old }
 {
     let whole = n / 8;
-    let mut i: usize = 0;
-    while i < whole {
-        let e = eight(s[i]);
-        put(buf, 8 * i, e, 8);
-        i += 1;
+    for i in 0..whole {
+        put(buf, 8 * i, eight(s[i]), 8);
     }
-    let at = 8 * i;
-    if n <= at {
-        return;
+    let at = 8 * whole;
+    if at < n {
+        put(buf, at, eight(s[whole]), n - at);
     }
-    let e = eight(s[i]);
-    put(buf, at, e, n - at);
 }

@@ -5,7 +5,10 @@ ghost use Rattle.std.specs.Prelude.{◌+◌, ◌*◌, ◌≤◌, ◌<◌, ◌≡
 ghost use Rattle.format.specs.Packed.{large, encode};
 ghost use Rattle.emit.specs.Nybbles.{put_one, put_all};
 
+use packed::Factor;
+
 // The nybble x at i.
+#[tactic(auto, using(crate::proofs::PutLaws::put_even, crate::proofs::PutLaws::put_odd))]
 pub fn put_nybble(buf: &mut [u8], i: usize, x: usize)
     requires { (i < 2 * length buf.old) × (x < 16) }
     ensures { buf.new ≡ put_one buf.old i x }
@@ -13,39 +16,41 @@ pub fn put_nybble(buf: &mut [u8], i: usize, x: usize)
     let at = i / 2;
     if i % 2 == 0 {
         buf[at] = (x * 16) as u8;
-        return;
+    } else {
+        buf[at] = buf[at] / 16 * 16 + x as u8;
     }
-    let high = buf[at] / 16;
-    buf[at] = high * 16 + (x as u8);
 }
 
 // k with its zeros and hexadecimal digits, from i on; it answers the place behind.
+#[tactic(auto, using(crate::proofs::PutLaws::large_length_one, crate::proofs::PutLaws::large_length_more))]
 fn write_large(buf: &mut [u8], i: usize, k: usize) -> usize
     requires { i + length (large k) ≤ 2 * length buf.old }
     ensures { (result ≡ i + length (large k)) × (buf.new ≡ put_all buf.old i (large k)) }
 {
     if k < 16 {
         put_nybble(buf, i, k);
-        return i + 1;
+        i + 1
+    } else {
+        put_nybble(buf, i, 0);
+        let at = write_large(buf, i + 1, k / 16);
+        put_nybble(buf, at, k % 16);
+        at + 1
     }
-    put_nybble(buf, i, 0);
-    let at = write_large(buf, i + 1, k / 16);
-    put_nybble(buf, at, k % 16);
-    at + 1
 }
 
 // The number n for f, from i on; it answers the place behind. Up to the limit, and only so far, the first of two nybbles is at most 13.
-pub fn write_number(buf: &mut [u8], i: usize, f: usize, n: usize) -> usize
-    requires { (f ≤ 13) × (1 ≤ n) × (n ≤ 65536) × (i + length (encode f n) ≤ 2 * length buf.old) }
-    ensures { (result ≡ i + length (encode f n)) × (buf.new ≡ put_all buf.old i (encode f n)) }
+#[tactic(auto, using(format::proofs::PackedLaws::length_one, crate::proofs::PutLaws::two_long))]
+pub fn write_number(buf: &mut [u8], i: usize, f: Factor, n: usize) -> usize
+    requires { (1 ≤ n) × (n ≤ 65536) × (i + length (encode f.n n) ≤ 2 * length buf.old) }
+    ensures { (result ≡ i + length (encode f.n n)) × (buf.new ≡ put_all buf.old i (encode f.n n)) }
 {
-    if n <= f {
+    if n <= f.n {
         put_nybble(buf, i, n);
         return i + 1;
     }
-    let k = n - f - 1;
-    if k / 16 + f < 13 {
-        put_nybble(buf, i, k / 16 + f + 1);
+    let k = n - f.n - 1;
+    if k / 16 + f.n < 13 {
+        put_nybble(buf, i, k / 16 + f.n + 1);
         put_nybble(buf, i + 1, k % 16);
         return i + 2;
     }

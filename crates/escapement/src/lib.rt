@@ -6,25 +6,25 @@ ghost use Rattle.format.specs.Measures.{to_scaled, whole_pixels};
 ghost use Rattle.escapement.specs.Count.{whole_of, scaled_of, capped};
 
 // In whole pixels.
-#[derive(Clone, Copy)]
+#[derive(Clone, Copy, Debug, PartialEq, Eq)]
 pub struct Pixels(pub u32);
 
 // In pixels times 65,536.
-#[derive(Clone, Copy)]
+#[derive(Clone, Copy, Debug, PartialEq, Eq)]
 pub struct Scaled(pub i64);
 
-impl Pixels {
-    // The one conversion, in 64 bits: 65,535 pixels are 4,294,901,760.
-    pub fn scaled(self) -> Scaled
-        ensures { scaled_of result ≡ to_scaled (whole_of self) }
-    {
-        let n = self.0 as u64 * 65536;
-        Scaled(n as i64)
+// The one conversion, in 64 bits: 65,535 pixels are 4,294,901,760.
+impl From<Pixels> for Scaled {
+    ghost from_gives = { λ p d. scaled_of d ≡ to_scaled (whole_of p) };
+
+    fn from(p: Pixels) -> Scaled {
+        Scaled(i64::from(p.0) * 65536)
     }
 }
 
 impl Scaled {
     // The pixels to try; whether they are this count, only the conversion says. 0 where they are more than 65,535, and for a negative count.
+    // Kept: 0 is no refusal, since whoever tries the pixels converts them back; an Option would only give the packer one more way out.
     pub fn whole(self) -> Pixels
         ensures { whole_of result ≡ capped (whole_pixels (scaled_of self)) }
     {

@@ -9,11 +9,7 @@ pub fn fill_run(buf: &mut [u8], at: usize, n: usize, v: u8)
     requires { at + n ≤ length buf.old }
     ensures { buf.new ≡ filled buf.old at n v }
 {
-    let mut i: usize = 0;
-    while i < n {
-        buf[at + i] = v;
-        i += 1;
-    }
+    buf[at..at + n].fill(v);
 }
 
 // The w bytes before `at` once more at `at`.
@@ -21,12 +17,7 @@ fn copy_row(buf: &mut [u8], at: usize, w: usize)
     requires { (w ≤ at) × (at + w ≤ length buf.old) }
     ensures { buf.new ≡ take at buf.old ++ (last_row w (take at buf.old) ++ drop (at + w) buf.old) }
 {
-    let from = at - w;
-    let mut i: usize = 0;
-    while i < w {
-        buf[at + i] = buf[from + i];
-        i += 1;
-    }
+    buf.copy_within(at - w..at, at);
 }
 
 // The same t times; it answers the place behind.
@@ -34,12 +25,10 @@ pub fn copy_rows(buf: &mut [u8], at: usize, w: usize, t: usize) -> usize
     requires { (w ≤ at) × (at + t * w ≤ length buf.old) }
     ensures { (result ≡ at + t * w) × (buf.new ≡ take at buf.old ++ (times t (last_row w (take at buf.old)) ++ drop (at + t * w) buf.old)) }
 {
-    let mut k: usize = 0;
     let mut to = at;
-    while k < t {
+    for _ in 0..t {
         copy_row(buf, to, w);
         to += w;
-        k += 1;
     }
     to
 }

@@ -1,12 +1,16 @@
 -- Numbers put into a buffer byte by byte, and fields number by number: invariants that say what remains. Assumes nothing.
-use Prim.Native.Nat.{ℕ, zero, suc, ◌+◌, ◌-◌, ◌*◌, ◌/◌, ◌%◌, ◌^◌, ◌≤◌, ◌<◌}
+use Prim.Native.Nat.{ℕ, zero, suc, ◌+◌, ◌-◌, ◌/◌, ◌%◌, ◌^◌, ◌≤◌, ◌<◌}
 use mathlib.Core.Path.{◌≡◌, refl, sym, ap, subst, ◌∙◌}
 use mathlib.Core.List.{List, [], ◌∷◌, ◌++◌}
-use native.Mathlib.Nat.{one-le-pow, mod-lt, div-lt_iff_lt-mul, add-zero}
+use native.Mathlib.Nat.{one-le-pow, add-zero}
 use native.Mathlib.Numerals.{add-one}
 use native.Mathlib.Omega.{arith}
-use lib.ListN.{length, drop, get_or, set, length-set, length-append, drop_of_length-le}
-use lib.Seq.{sets, sets-eq, length-sets, drop-cons}
+use Rattle.std.proofs.Common.{append_assoc}
+use lib.ListN.{length, take, drop, get_or, set, length-append, drop_of_length-le}
+use lib.Seq.{sets, sets-eq, length-sets, drop-cons, drop-drop, take-length}
+use borrow.Rule.Slice.PartMut.{put_mid}
+use mir.Syntax.{w64}
+use Rattle.std.specs.Int.{to_be_bytes}
 use Rattle.format.specs.Numbers.{bytes}
 use Rattle.format.proofs.FieldLaws.{length-bytes}
 use Rattle.head.specs.Head.{numbers, total, Fit, narrow_widths}
@@ -16,49 +20,42 @@ pow_pos k = one-le-pow k 256 (omega arith)
 
 -- One number.
 
--- The j bytes of m from i on are what is left.
-pub record Left (l : List ℕ) (at k n : ℕ) (d : List ℕ) (top m i j : ℕ) : Type 0 where
-  pub top_is : top ≡ 256 ^ j
-  pub fits : m < 256 ^ j
-  pub place : i + j ≡ at + k
-  pub room : at + k ≤ length l
-  pub same : length d ≡ length l
-  pub is : sets l at (bytes k n) ≡ sets d i (bytes j m)
-
-pub left_start : (l : List ℕ) (at k n : ℕ) {top : ℕ} → top ≡ 256 ^ k → n < 256 ^ k → at + k ≤ length l → Left l at k n l top n at k
-left_start l at k n e h r = record { top_is = e; fits = h; place = refl; room = r; same = refl; is = refl }
-
--- What one byte more needs.
-pub record Step (top m : ℕ) : Type 0 where
-  pub some : 0 < top / 256
-  pub byte : m / (top / 256) < 256
-
-pub left_step : {l : List ℕ} {at k n : ℕ} {d : List ℕ} {top m i : ℕ} (j : ℕ) → Left l at k n d top m i j → 0 < j → Step top m
-left_step zero a h = absurd (omega arith)
-left_step {top = top} {m = m} (suc j) a h =
-    let e : top / 256 ≡ 256 ^ j = omega (arith, a.top_is) in
-    let p = pow_pos j in
-    let q : m < 256 * 256 ^ j = omega (arith, a.fits) in
-    record { some = omega arith; byte = rw e ((div-lt_iff_lt-mul p).1 q) }
-
-pub left_more : {l : List ℕ} {at k n : ℕ} {d : List ℕ} {top m i : ℕ} (j : ℕ) → Left l at k n d top m i j → 0 < j → Left l at k n (set d i (m / (top / 256))) (top / 256) (m % (top / 256)) (i + 1) (j - 1)
+-- Its k bytes are the last of eight.
+pub last_bytes : (k n : ℕ) → k ≤ 4 → n < 256 ^ k → drop (8 - k) (to_be_bytes w64 n) ≡ bytes k n
 unfolding bytes
-left_more zero a h = absurd (omega arith)
-left_more {d = d} {top = top} {m = m} {i = i} (suc j) a h =
-    let e : top / 256 ≡ 256 ^ j = omega (arith, a.top_is) in
-    let p : suc j - 1 ≡ j = omega arith in
-    record {
-      top_is = rw p e;
-      fits = rw (p, e) (mod-lt m (pow_pos j));
-      place = omega (arith, a.place);
-      room = a.room;
-      same = length-set d i (m / (top / 256)) ∙ a.same;
-      is = rw (p, e, add-one i) a.is;
-    }
+last_bytes zero n l h = refl
+last_bytes (suc zero) n l h = let a : n % 256 ≡ n / 1 = omega arith in rw a refl
+last_bytes (suc (suc zero)) n l h =
+    let a : n / 256 % 256 ≡ n / 256 = omega arith in
+    let b : n % 256 / 1 ≡ n % 256 = omega arith in
+    rw (a, b) refl
+last_bytes (suc (suc (suc zero))) n l h =
+    let a : n / 65536 % 256 ≡ n / 65536 = omega arith in
+    let b : n / 256 % 256 ≡ n % 65536 / 256 = omega arith in
+    let d : n % 65536 % 256 / 1 ≡ n % 256 = omega arith in
+    rw (a, b, d) refl
+last_bytes (suc (suc (suc (suc zero)))) n l h =
+    let a : n / 16777216 % 256 ≡ n / 16777216 = omega arith in
+    let b : n / 65536 % 256 ≡ n % 16777216 / 65536 = omega arith in
+    let d : n / 256 % 256 ≡ n % 16777216 % 65536 / 256 = omega arith in
+    let e : n % 16777216 % 65536 % 256 / 1 ≡ n % 256 = omega arith in
+    rw (a, b, d, e) refl
+last_bytes (suc (suc (suc (suc (suc k))))) n l h = absurd (omega arith)
 
-pub left_end : {l : List ℕ} {at k n : ℕ} {d : List ℕ} {top m i j : ℕ} → Left l at k n d top m i j → j ≡ 0 → (i ≡ at + k) × (d ≡ sets l at (bytes k n))
-unfolding bytes
-left_end a h = (omega (arith, a.place), sym (a.is ∙ rw h refl))
+-- Copied to their place, they are the number there.
+pub number_put : (l : List ℕ) (at k n : ℕ) {d e : List ℕ} → at + k ≤ length l → k ≤ 4 → n < 256 ^ k → e ≡ to_be_bytes w64 n → d ≡ take (8 - (8 - k)) (drop (8 - k) e)
+    → put_mid at (at + k - at) l d ≡ sets l at (bytes k n)
+number_put l at k n {d} {e} r h s p q =
+    let b = bytes k n in
+    let a : 8 - (8 - k) ≡ k = omega arith in
+    let m : at + k - at ≡ k = omega arith in
+    let z : length b ≡ k = length-bytes k n in
+    let f : drop (8 - k) e ≡ b = ap (drop (8 - k)) p ∙ last_bytes k n h s in
+    let g : d ≡ b = q ∙ rw (a, f) (take_whole b k z) in
+    rw (m, g) (ap (λ (x : List ℕ). take at l ++ (b ++ x)) (drop-drop k at l) ∙ sym (sets-eq b l at (omega arith) ∙ ap (λ (x : ℕ). (take at l ++ b) ++ drop (at + x) l) z ∙ append_assoc (take at l) b (drop (at + k) l)))
+  where
+    take_whole : (b : List ℕ) (k : ℕ) → length b ≡ k → take k b ≡ b
+    take_whole b k z = rw (← z) (take-length b)
 
 -- Fields.
 
@@ -165,11 +162,10 @@ bytes_three : (n : ℕ) → bytes 3 n ≡ n / 65536 ∷ n % 65536 / 256 ∷ n % 
 unfolding bytes
 bytes_three n = let e : n % 65536 % 256 / 1 ≡ n % 256 = omega arith in ap (λ (x : ℕ). n / 65536 ∷ n % 65536 / 256 ∷ x ∷ []) e
 
--- Its flag and fields, stored byte after byte, stand at the buffer's start.
-pub short_put : (l : List ℕ) (flag n code tfm dm w h x y : ℕ) → 11 ≤ length l
-    → sets l 0 (flag ∷ n ∷ code ∷ tfm / 65536 ∷ tfm % 65536 / 256 ∷ tfm % 256 ∷ dm ∷ w ∷ h ∷ x ∷ y ∷ [])
-    ≡ (flag ∷ numbers (narrow_widths 1) (n ∷ code ∷ tfm ∷ dm ∷ 0 ∷ w ∷ h ∷ x ∷ y ∷ [])) ++ drop 11 l
+-- Its flag and fields are those bytes.
+pub short_put : (l : List ℕ) (flag n code tfm dm w h x y : ℕ) {d : List ℕ}
+    → d ≡ flag ∷ n ∷ code ∷ tfm / 65536 ∷ tfm % 65536 / 256 ∷ tfm % 256 ∷ dm ∷ w ∷ h ∷ x ∷ y ∷ []
+    → d ++ drop 11 l ≡ (flag ∷ numbers (narrow_widths 1) (n ∷ code ∷ tfm ∷ dm ∷ 0 ∷ w ∷ h ∷ x ∷ y ∷ [])) ++ drop 11 l
 unfolding numbers
-short_put l flag n code tfm dm w h x y r =
-    sets-eq (flag ∷ n ∷ code ∷ tfm / 65536 ∷ tfm % 65536 / 256 ∷ tfm % 256 ∷ dm ∷ w ∷ h ∷ x ∷ y ∷ []) l 0 r
-    ∙ sym (rw (bytes_none 0, bytes_three tfm, byte_one n, byte_one code, byte_one dm, byte_one w, byte_one h, byte_one x, byte_one y) refl)
+short_put l flag n code tfm dm w h x y e =
+    rw e (sym (rw (bytes_none 0, bytes_three tfm, byte_one n, byte_one code, byte_one dm, byte_one w, byte_one h, byte_one x, byte_one y) refl))

@@ -7,7 +7,7 @@ use Rattle.format.specs.Pieces.{Form, short, extended, long, kinds, Packet, fiel
 use Rattle.format.specs.Choice.{in_form, holds}
 use Rattle.pick.specs.Picks.{Judged, tried}
 use Rattle.pick.specs.declared.Picked.{Picked}
-use Rattle.pick.specs.declared.Picked.TheVariants.{Short, Extended, Long, Nothing}
+use Rattle.pick.specs.declared.Picked.TheVariants.{Short, Extended, Long}
 
 -- A packet's head.
 
@@ -15,19 +15,17 @@ use Rattle.pick.specs.declared.Picked.TheVariants.{Short, Extended, Long, Nothin
 unfoldable pub head_of : Packet → List ℕ
 head_of p = flag p ∷ field_bytes (kinds p.form) (fields p)
 
--- The same in the form picked, before n raster bytes, whatever they are; none if no form holds.
+-- The same in the form picked, before n raster bytes, whatever they are.
 abbrev pub head_for : ℕ → Bool → F.Measures → ℕ → Picked → List ℕ
 head_for f black m n (Short dm x y) = head_of (in_form f black m (replicate n 0) short)
 head_for f black m n (Extended dm x y) = head_of (in_form f black m (replicate n 0) extended)
 head_for f black m n (Long x y) = head_of (in_form f black m (replicate n 0) long)
-head_for f black m n Nothing = []
 
 -- How many they are.
 abbrev pub head_length : Picked → ℕ
 head_length (Short dm x y) = 11
 head_length (Extended dm x y) = 17
 head_length (Long x y) = 37
-head_length Nothing = 0
 
 -- Numbers in a row.
 

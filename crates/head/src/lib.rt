@@ -22,18 +22,9 @@ fn put_number(buf: &mut [u8], at: usize, k: usize, n: u64) -> usize
     requires { (at + k ≤ length buf.old) × (k ≤ 4) × (n < 256 ^ k) }
     ensures { (result ≡ at + k) × (buf.new ≡ sets buf.old at (bytes k n)) }
 {
-    let mut top = fields::values_of(k);
-    let mut m = n;
-    let mut i = at;
-    let mut j = k;
-    while 0 < j {
-        j -= 1;
-        top = top / 256;
-        buf[i] = (m / top) as u8;
-        m = m % top;
-        i += 1;
-    }
-    i
+    let e = n.to_be_bytes();
+    buf[at..at + k].copy_from_slice(&e[8 - k..]);
+    at + k
 }
 
 // Nine numbers, each in its own number of bytes, from at on.
@@ -41,11 +32,9 @@ fn put_fields(buf: &mut [u8], at: usize, ks: [usize; 9], vs: [u64; 9]) -> usize
     requires { (at + total ks ≤ length buf.old) × Fit ks vs }
     ensures { (result ≡ at + total ks) × (buf.new ≡ sets buf.old at (numbers ks vs)) }
 {
-    let mut i: usize = 0;
     let mut to = at;
-    while i < 9 {
+    for i in 0..9 {
         to = put_number(buf, to, ks[i], vs[i]);
-        i += 1;
     }
     to
 }
@@ -59,7 +48,7 @@ fn put_head(buf: &mut [u8], flag: u64, ks: [usize; 9], vs: [u64; 9]) -> usize
     put_fields(buf, 1, ks, vs)
 }
 
-// The same for a short packet, which nearly every one is: byte after byte, with no loop.
+// The same for a short packet, which nearly every one is: its bytes at once.
 fn put_short(
     buf: &mut [u8],
     flag: u64,
@@ -75,17 +64,19 @@ fn put_short(
     requires { (11 ≤ length buf.old) × (flag < 256) × Fit (narrow_widths 1) (size ∷ code ∷ tfm ∷ dm ∷ 0 ∷ w ∷ h ∷ x ∷ y ∷ []) }
     ensures { (result ≡ 11) × (buf.new ≡ (flag ∷ numbers (narrow_widths 1) (size ∷ code ∷ tfm ∷ dm ∷ 0 ∷ w ∷ h ∷ x ∷ y ∷ [])) ++ drop 11 buf.old) }
 {
-    buf[0] = flag as u8;
-    buf[1] = size as u8;
-    buf[2] = code as u8;
-    buf[3] = (tfm / 65536) as u8;
-    buf[4] = (tfm % 65536 / 256) as u8;
-    buf[5] = (tfm % 256) as u8;
-    buf[6] = dm as u8;
-    buf[7] = w as u8;
-    buf[8] = h as u8;
-    buf[9] = x as u8;
-    buf[10] = y as u8;
+    buf[..11].copy_from_slice(&[
+        flag as u8,
+        size as u8,
+        code as u8,
+        (tfm / 65536) as u8,
+        (tfm % 65536 / 256) as u8,
+        (tfm % 256) as u8,
+        dm as u8,
+        w as u8,
+        h as u8,
+        x as u8,
+        y as u8,
+    ]);
     11
 }
 
@@ -96,10 +87,7 @@ fn twos(z: i64, k: usize) -> u64
 {
     let top = fields::values_of(k);
     let n = sign::magnitude(z);
-    if z < 0 {
-        return top - 1 - n;
-    }
-    n
+    if z < 0 { top - 1 - n } else { n }
 }
 
 // The flag: f, the black bit, and the form's bits.
@@ -107,10 +95,7 @@ fn flag_of(f: usize, black: bool, form: u64) -> u64
     requires { (f ≤ 14) × (form < 8) }
     ensures { (result ≡ 16 * f + black_bit black + form) × (result < 256) }
 {
-    if black {
-        return 16 * f as u64 + 8 + form;
-    }
-    16 * f as u64 + form
+    16 * f as u64 + if black { 8 } else { 0 } + form
 }
 
 // The fields of a short packet, of k = 1, or of an extended one, of k = 2, with the offsets x and y; dy has no bytes.
@@ -124,7 +109,7 @@ fn narrow_values(m: Measures, k: usize, dm: Pixels, x: i64, y: i64, length: u64)
     let h = sign::magnitude(m.h);
     let hoff = twos(x, k);
     let voff = twos(y, k);
-    [length, code, tfm, dm.0 as u64, 0, w, h, hoff, voff]
+    [length, code, tfm, u64::from(dm.0), 0, w, h, hoff, voff]
 }
 
 // The fields of a long packet, with the offsets x and y.
@@ -160,7 +145,7 @@ fn write_short(
     ensures { (result ≡ 11) × (buf.new ≡ head_for f black (said m) n (Short dm x y) ++ drop 11 buf.old) }
 {
     let length = 8 + n as u64;
-    let vs = narrow_values(m, 1, dm, x as i64, y as i64, length % 256);
+    let vs = narrow_values(m, 1, dm, i64::from(x), i64::from(y), length % 256);
     let flag = flag_of(f, black, length / 256);
     put_short(
         buf, flag, vs[0], vs[1], vs[2], vs[3], vs[5], vs[6], vs[7], vs[8],
@@ -182,7 +167,7 @@ fn write_extended(
     ensures { (result ≡ 17) × (buf.new ≡ head_for f black (said m) n (Extended dm x y) ++ drop 17 buf.old) }
 {
     let length = 13 + n as u64;
-    let vs = narrow_values(m, 2, dm, x as i64, y as i64, length % 65536);
+    let vs = narrow_values(m, 2, dm, i64::from(x), i64::from(y), length % 65536);
     let flag = flag_of(f, black, 4 + length / 65536);
     put_head(buf, flag, [2, 1, 3, 2, 0, 2, 2, 2, 2], vs)
 }
@@ -193,7 +178,7 @@ fn write_long(buf: &mut [u8], f: usize, black: bool, m: Measures, x: i32, y: i32
     ensures { (result ≡ 37) × (buf.new ≡ head_for f black (said m) n (Long x y) ++ drop 37 buf.old) }
 {
     let length = 28 + n as u64;
-    let vs = long_values(m, x as i64, y as i64, length);
+    let vs = long_values(m, i64::from(x), i64::from(y), length);
     let flag = flag_of(f, black, 7);
     put_head(buf, flag, [4, 4, 4, 4, 4, 4, 4, 4, 4], vs)
 }
@@ -206,7 +191,6 @@ pub fn head_length(k: Picked) -> usize
         Picked::Short(_, _, _) => 11,
         Picked::Extended(_, _, _) => 17,
         Picked::Long(_, _) => 37,
-        Picked::Nothing => 0,
     }
 }
 
@@ -217,17 +201,8 @@ pub fn write_head(buf: &mut [u8], f: usize, black: bool, m: Measures, k: Picked,
     ensures buf_after { buf.new ≡ head_for f black (said m) n k ++ drop result buf.old }
 {
     match k {
-        Picked::Short(dm, x, y) => {
-            return write_short(buf, f, black, m, dm, x, y, n);
-        }
-        Picked::Extended(dm, x, y) => {
-            return write_extended(buf, f, black, m, dm, x, y, n);
-        }
-        Picked::Long(x, y) => {
-            return write_long(buf, f, black, m, x, y, n);
-        }
-        Picked::Nothing => {
-            return 0;
-        }
+        Picked::Short(dm, x, y) => write_short(buf, f, black, m, dm, x, y, n),
+        Picked::Extended(dm, x, y) => write_extended(buf, f, black, m, dm, x, y, n),
+        Picked::Long(x, y) => write_long(buf, f, black, m, x, y, n),
     }
 }

@@ -1,77 +1,70 @@
 // The items of a raster: a run or a repeat, with the place of the nybble after it.
 #![tactic(auto)]
 
-ghost use Rattle.std.specs.Prelude.{◌≤◌, ◌≡◌};
+ghost use Rattle.std.specs.Prelude.{◌≡◌};
 ghost use Rattle.format.specs.Reading.{item_of};
-ghost use Rattle.packed.specs.Answer.{from};
-ghost use Rattle.items.specs.Items.{as_run, as_repeat, to_item};
+ghost use Rattle.packed.specs.Answer.{from, read_at};
+ghost use Rattle.items.specs.Items.{refusal_of, wanted, to_item};
 
-use packed::Read;
+use packed::{Factor, Number, Unread};
 use refusals::Refusal;
 
-// A run or a repeat of a number, 65,537 for any above 65,536, and the place of the next nybble; or the fault that stands there.
+// A run or a repeat of a number, 65,537 for any above 65,536, and the place of the next nybble.
 #[derive(Clone, Copy)]
 pub enum Item {
     Run(usize, usize),
     Repeat(usize, usize),
-    Fault(Refusal),
 }
 
-// A packed number as a run.
-fn as_run(read: Read) -> Item
-    ensures { result ≡ as_run read }
+// Where a number is wanted and none is read.
+fn refusal_of(unread: Unread) -> Refusal
+    ensures { result ≡ refusal_of unread }
 {
-    match read {
-        Read::Number(n, next) => Item::Run(n, next),
-        Read::Ends => Item::Fault(Refusal::RASTER_ENDS),
-        Read::Mark => Item::Fault(Refusal::SECOND_REPEAT),
+    match unread {
+        Unread::Ends => Refusal::RasterEnds,
+        Unread::Mark => Refusal::SecondRepeat,
     }
 }
 
-// A packed number as a repeat.
-fn as_repeat(read: Read) -> Item
-    ensures { result ≡ as_repeat read }
+// The packed number whose first nybble is at `at`, where one is wanted.
+fn number_at(s: &[u8], at: usize, f: Factor) -> Result<Number, Refusal>
+    ensures { result ≡ wanted (read_at s.now at f.n) }
 {
-    match read {
-        Read::Number(n, next) => Item::Repeat(n, next),
-        Read::Ends => Item::Fault(Refusal::RASTER_ENDS),
-        Read::Mark => Item::Fault(Refusal::SECOND_REPEAT),
-    }
+    packed::read_number(s, at, f).map_err(refusal_of)
 }
 
 // The item whose first nybble is at `at`, in a row that has had the repeat given.
-pub fn other_at(s: &[u8], at: usize, f: usize, repeat: usize) -> Item
-    requires { f ≤ 13 }
-    ensures { result ≡ to_item s.now (item_of f repeat (from s.now at)) }
+pub fn other_at(s: &[u8], at: usize, f: Factor, repeat: usize) -> Result<Item, Refusal>
+    ensures { result ≡ to_item s.now (item_of f.n repeat (from s.now at)) }
 {
     if 2 * s.len() <= at {
-        return Item::Fault(Refusal::RASTER_ENDS);
+        return Err(Refusal::RasterEnds);
     }
     let x = nybbles::nybble(s, at);
     if x < 14 {
-        return as_run(packed::read_number(s, at, f));
+        let run = number_at(s, at, f)?;
+        return Ok(Item::Run(run.n, run.next));
     }
     if 0 < repeat {
-        return Item::Fault(Refusal::SECOND_REPEAT);
+        return Err(Refusal::SecondRepeat);
     }
     if x == 15 {
-        return Item::Repeat(1, at + 1);
+        return Ok(Item::Repeat(1, at + 1));
     }
-    let short = packed::short_at(s, at + 1, f);
-    if short.n != 0 {
-        return Item::Repeat(short.n, short.next);
+    // Kept, though `number_at` would read it too: one call fewer for most repeats, which shows in the time.
+    if let Some(short) = packed::short_at(s, at + 1, f) {
+        return Ok(Item::Repeat(short.n, short.next));
     }
-    as_repeat(packed::read_number(s, at + 1, f))
+    let number = number_at(s, at + 1, f)?;
+    Ok(Item::Repeat(number.n, number.next))
 }
 
 // The same, looking first for a run of one or two nybbles, which most are.
-pub fn item_at(s: &[u8], at: usize, f: usize, repeat: usize) -> Item
-    requires { f ≤ 13 }
-    ensures { result ≡ to_item s.now (item_of f repeat (from s.now at)) }
+pub fn item_at(s: &[u8], at: usize, f: Factor, repeat: usize) -> Result<Item, Refusal>
+    ensures { result ≡ to_item s.now (item_of f.n repeat (from s.now at)) }
 {
-    let short = packed::short_at(s, at, f);
-    if short.n != 0 {
-        return Item::Run(short.n, short.next);
+    if let Some(short) = packed::short_at(s, at, f) {
+        return Ok(Item::Run(short.n, short.next));
     }
     other_at(s, at, f, repeat)
 }

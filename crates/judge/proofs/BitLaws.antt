@@ -3,9 +3,9 @@ use Prim.Native.Nat.{ℕ, suc, ◌+◌, ◌-◌, ◌*◌, ◌/◌, ◌%◌, ◌^
 use mathlib.Core.Path.{◌≡◌, refl, sym, ap, ◌∙◌}
 use mathlib.Core.Bool.{Bool, true, false}
 use mathlib.Core.List.{List, [], ◌∷◌}
-use native.Mathlib.Nat.{one-le-pow}
+use native.Mathlib.Nat.{pow-le-pow_right}
 use native.Mathlib.Omega.{arith}
-use lib.Dec.{T, eqb, eqb→eq}
+use lib.Dec.{T, eqb}
 use lib.ListN.{length, drop, get_or, replicate, drop_of_length-le}
 use lib.Seq.{drop-cons}
 use borrow.Author.Tests.{le-leb, lt-leb, eq-eqb, ne_eqb}
@@ -17,18 +17,11 @@ use Rattle.format.proofs.Table.{every, at}
 use Rattle.format.proofs.BitLaws.{bits_behind}
 use Rattle.refusals.specs.Names.{coded}
 use Rattle.judge.specs.Judgement.{judged}
-use Rattle.judge.specs.declared.Judged.TheVariants.{Whole, Fault}
+use Rattle.std.specs.Prelude.{Ok, Err}
 
--- The powers of 2.
-
-abbrev pub values : List ℕ
-values = 1 ∷ 2 ∷ 4 ∷ 8 ∷ 16 ∷ 32 ∷ 64 ∷ 128 ∷ []
-
-pub value_rule : (k : ℕ) → k ≤ 7 → get_or values k 0 ≡ 2 ^ k
-value_rule k h = eqb→eq (get_or values k 0) (2 ^ k) (at (λ (k x : ℕ). eqb x (2 ^ k)) values tt k (omega arith))
-
-pub value_some : (k r : ℕ) → r ≡ 2 ^ k → 0 < r
-value_some k r e = omega (arith, one-le-pow k 2 (omega arith))
+-- A one shifted left comes to a power of 2.
+pub shifted : (k : ℕ) → k ≤ 7 → 1 * 2 ^ k % 18446744073709551616 ≡ 2 ^ k
+shifted k h = omega (arith, pow-le-pow_right {n = 2} (omega arith) {i = k} {j = 7} h)
 
 -- The low bits of a byte.
 
@@ -73,30 +66,30 @@ last_bits_lem s n k l e p =
 -- The answers.
 
 module _ (s : List ℕ) (n : ℕ) where
-  pub bits_few : length s < (n + 7) / 8 → Fault (coded raster_ends) ≡ judged (bits_read n (bytes_of_bits n) s)
+  pub bits_few : length s < (n + 7) / 8 → Err (coded raster_ends) ≡ judged (bits_read n (bytes_of_bits n) s)
   unfolding judged bits_read need ◌>>=◌
   bits_few l = rw (lt-leb ((n + 7) / 8) (length s) l) refl
 
-  pub bits_many : (n + 7) / 8 < length s → Fault (coded left_over) ≡ judged (bits_read n (bytes_of_bits n) s)
+  pub bits_many : (n + 7) / 8 < length s → Err (coded left_over) ≡ judged (bits_read n (bytes_of_bits n) s)
   unfolding judged bits_read need ◌>>=◌
   bits_many l = rw (le-leb ((n + 7) / 8) (length s) (omega arith), lt-leb (length s) ((n + 7) / 8) l) refl
 
   -- As many bytes as are wanted, of which b is the last; v is how many values the spare bits have.
-  module _ (k : ℕ) (l : length s ≡ k) (e : k ≡ (n + 7) / 8) (p : 1 ≤ n) (b : ℕ) (last : b ≡ get_or s (k - 1) 0) (byte : b < 256) (v : ℕ) (is : v ≡ 2 ^ (8 * k - n)) where
+  module _ (k : ℕ) (l : length s ≡ k) (e : k ≡ (n + 7) / 8) (p : 1 ≤ n) (b : ℕ) (last : b ≡ get_or s (k - 1) 0) (byte : get_or s (k - 1) 0 < 256) (v : ℕ) (is : v ≡ 2 ^ (8 * k - n)) where
     spare : all 0 (drop n (bits s)) ≡ eqb (b % v) 0
     spare =
         let m : 8 - (8 - (8 * k - n)) ≡ 8 * k - n = omega arith in
         ap (all 0) (last_bits_lem s n k l e p) ∙ ap (λ (x : ℕ). all 0 (drop (8 - (8 * k - n)) (bits_of x))) (sym last)
-        ∙ low_rule b (8 - (8 * k - n)) byte (omega arith) ∙ ap (λ (x : ℕ). eqb (b % 2 ^ x) 0) m ∙ ap (λ (x : ℕ). eqb (b % x) 0) (sym is)
+        ∙ low_rule b (8 - (8 * k - n)) (omega arith) (omega arith) ∙ ap (λ (x : ℕ). eqb (b % 2 ^ x) 0) m ∙ ap (λ (x : ℕ). eqb (b % x) 0) (sym is)
 
     enough : (x : Bool) → eqb (b % v) 0 ≡ x → judged (bits_read n (bytes_of_bits n) s) ≡ judged (need x left_over >>= λ _. ok [])
     unfolding bits_read need ◌>>=◌
     enough x y = rw (le-leb ((n + 7) / 8) (length s) (omega arith), le-leb (length s) ((n + 7) / 8) (omega arith), spare, y) refl
 
-    pub bits_bad : (b % v ≡ 0 → ⊥) → Fault (coded left_over) ≡ judged (bits_read n (bytes_of_bits n) s)
+    pub bits_bad : (b % v ≡ 0 → ⊥) → Err (coded left_over) ≡ judged (bits_read n (bytes_of_bits n) s)
     unfolding judged need ◌>>=◌
     bits_bad z = sym (enough false (ne_eqb (b % v) 0 z))
 
-    pub bits_whole : b % v ≡ 0 → Whole ≡ judged (bits_read n (bytes_of_bits n) s)
+    pub bits_whole : b % v ≡ 0 → Ok tt ≡ judged (bits_read n (bytes_of_bits n) s)
     unfolding judged need ◌>>=◌
     bits_whole z = sym (enough true (eq-eqb (b % v) 0 z))

@@ -6,7 +6,9 @@ use mathlib.Core.List.{List, [], ◌∷◌}
 use native.Mathlib.Omega.{arith}
 use lib.ListN.{length, get_or}
 use borrow.Author.Tests.{lt-leb}
-use Rattle.format.specs.Refusals.{left_over, Result, ok, fault, ◌>>=◌}
+use Rattle.format.specs.Refusals as F
+use Rattle.format.specs.Refusals.{left_over, ok, fault, ◌>>=◌}
+use Rattle.std.specs.Prelude.{Result, Ok, Err}
 use Rattle.format.specs.Packed.{nybbles}
 use Rattle.format.specs.Rasters.{Item, run, fourteen, fifteen}
 use Rattle.format.specs.Reading.{State, pixels_left, item_of, after_run, after_repeat, after_item, turn, finish}
@@ -15,15 +17,13 @@ use Rattle.packed.specs.Answer.{from, cap}
 use Rattle.packed.proofs.Part.{from_end, from_cons}
 use Rattle.refusals.specs.Names.{coded}
 use Rattle.state.specs.Moves.{moved_to, Within}
-use Rattle.state.specs.declared.Moved.{Moved}
+use Rattle.state.specs.declared.State as D
+use Rattle.refusals.specs.declared.Refusal.{Refusal}
 use Rattle.state.proofs.MoveLaws.{left_small, rows_few}
 use Rattle.items.specs.Items.{to_item}
 use Rattle.items.specs.declared.Item as C
-use Rattle.items.specs.declared.Item.TheVariants.{Run, Repeat, Fault}
+use Rattle.items.specs.declared.Item.TheVariants.{Run, Repeat}
 use Rattle.judge.specs.Judgement.{on_to, colour_after, to_turn, judged}
-use Rattle.judge.specs.declared.Judged.TheVariants as J
-use Rattle.judge.specs.declared.Turn.{Turn}
-use Rattle.judge.specs.declared.Turn.TheVariants as T
 
 -- The end.
 
@@ -33,11 +33,11 @@ finish_two zero y xs = refl
 finish_two (suc x) y xs = refl
 
 module _ (s : List ℕ) (at : ℕ) where
-  pub finish_none : 2 * length s ≤ at → J.Whole ≡ judged (finish (from s at))
+  pub finish_none : 2 * length s ≤ at → Ok tt ≡ judged (finish (from s at))
   unfolding judged finish
   finish_none h = rw (from_end s at h) refl
 
-  pub finish_more : 1 < 2 * length s - at → J.Fault (coded left_over) ≡ judged (finish (from s at))
+  pub finish_more : 1 < 2 * length s - at → Err (coded left_over) ≡ judged (finish (from s at))
   unfolding judged
   finish_more h = rw (from_cons s at (omega arith), from_cons s (at + 1) (omega arith), finish_two) refl
 
@@ -46,15 +46,15 @@ module _ (s : List ℕ) (at : ℕ) where
     alone : from s at ≡ x ∷ []
     alone = from_cons s at l ∙ rw (← here, from_end s (at + 1) (omega arith)) refl
 
-    pub finish_bad : (x ≡ 0 → ⊥) → J.Fault (coded left_over) ≡ judged (finish (from s at))
+    pub finish_bad : (x ≡ 0 → ⊥) → Err (coded left_over) ≡ judged (finish (from s at))
     unfolding judged finish
     finish_bad e = rw alone (go x e)
       where
-        go : (x : ℕ) → (x ≡ 0 → ⊥) → J.Fault (coded left_over) ≡ judged (finish (x ∷ []))
+        go : (x : ℕ) → (x ≡ 0 → ⊥) → Err (coded left_over) ≡ judged (finish (x ∷ []))
         go zero e = absurd (e refl)
         go (suc x) e = refl
 
-    pub finish_spare : x ≡ 0 → J.Whole ≡ judged (finish (from s at))
+    pub finish_spare : x ≡ 0 → Ok tt ≡ judged (finish (from s at))
     unfolding judged finish
     finish_spare e = rw (alone, e) refl
 
@@ -77,23 +77,20 @@ cap_repeat h n s l =
 -- A turn.
 
 -- A move behind an item, with the place of the next nybble.
-on_turn : (s : List ℕ) (black : Bool) (r : Result State) (i : Item) (rest : List ℕ)
+on_turn : (s : List ℕ) (black : Bool) (r : F.Result State) (i : Item) (rest : List ℕ)
     → on_to (moved_to (colour_after black i) r) (2 * length s - length rest) ≡ to_turn s black (r >>= λ t. ok (i, t, rest))
 unfolding to_turn ◌>>=◌ moved_to
 on_turn s black (ok t) i rest = refl
 on_turn s black (fault x) i rest = refl
 
-pub moved_on : (m k : Moved) (next : ℕ) → m ≡ k → on_to m next ≡ on_to k next
-moved_on m k next e = rw e refl
-
 -- The turn that an item makes.
-abbrev pub turn_of : Bool → ℕ → ℕ → State → C.Item → Turn
-turn_of black w h st (Run n next) = on_to (moved_to (not black) (after_run w h n st)) next
-turn_of black w h st (Repeat n next) = on_to (moved_to black (after_repeat h n st)) next
-turn_of black w h st (Fault x) = T.Fault x
+abbrev pub turn_of : Bool → ℕ → ℕ → State → Result C.Item Refusal → Result (D.State × ℕ) Refusal
+turn_of black w h st (Ok (Run n next)) = on_to (moved_to (not black) (after_run w h n st)) next
+turn_of black w h st (Ok (Repeat n next)) = on_to (moved_to black (after_repeat h n st)) next
+turn_of black w h st (Err x) = Err x
 
 module _ (s : List ℕ) (black : Bool) (f w h : ℕ) (st : State) (xs : List ℕ) (i : Within w h st) where
-  item_turn : (r : Result (Item × List ℕ)) → item_of f st.repeat xs ≡ r → turn_of black w h st (to_item s r) ≡ to_turn s black (turn f w h st xs)
+  item_turn : (r : F.Result (Item × List ℕ)) → item_of f st.repeat xs ≡ r → turn_of black w h st (to_item s r) ≡ to_turn s black (turn f w h st xs)
   unfolding turn to_item to_turn ◌>>=◌ after_item
   item_turn (fault x) p = rw p refl
   item_turn (ok (run n, rest)) p = rw (p, cap_run w h n st (omega (arith, left_small w h st i))) (on_turn s black (after_run w h n st) (run n) rest)
@@ -101,5 +98,5 @@ module _ (s : List ℕ) (black : Bool) (f w h : ℕ) (st : State) (xs : List ℕ
   item_turn (ok (fifteen, rest)) p = rw p (on_turn s black (after_repeat h 1 st) fifteen rest)
 
   -- The turn of an item t.
-  pub turn_is : (a t : C.Item) → a ≡ t → a ≡ to_item s (item_of f st.repeat xs) → turn_of black w h st t ≡ to_turn s black (turn f w h st xs)
+  pub turn_is : (a t : Result C.Item Refusal) → a ≡ t → a ≡ to_item s (item_of f st.repeat xs) → turn_of black w h st t ≡ to_turn s black (turn f w h st xs)
   turn_is a t e q = ap (turn_of black w h st) (sym e ∙ q) ∙ item_turn (item_of f st.repeat xs) refl

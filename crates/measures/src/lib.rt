@@ -43,8 +43,8 @@ fn narrow(s: &[u8], at: usize, m: usize, x: Outline) -> Measures
         w: x.w as i64,
         h: x.h as i64,
         tfm: tfm as i64,
-        dx: Pixels(dm as u32).scaled(),
-        dy: Pixels(0).scaled(),
+        dx: Scaled::from(Pixels(dm as u32)),
+        dy: Scaled::from(Pixels(0)),
         hoff,
         voff,
     }

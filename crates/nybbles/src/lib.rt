@@ -9,6 +9,6 @@ pub fn nybble(s: &[u8], i: usize) -> usize
     requires { i < 2 * length s.now }
     ensures { NybbleAt s.now i result }
 {
-    let b = byte::wide(s[i / 2]);
+    let b = usize::from(s[i / 2]);
     if i % 2 == 0 { b / 16 } else { b % 16 }
 }

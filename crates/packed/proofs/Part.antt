@@ -1,7 +1,7 @@
 -- The nybbles of bytes from a place on, and what is read there, step by step.
 -- Assumes nothing.
 use Prim.Native.Nat.{ℕ, zero, suc, ◌+◌, ◌-◌, ◌*◌, ◌≤◌, ◌<◌, min}
-use mathlib.Core.Path.{◌≡◌, refl, sym, ap, ap₂, ◌∙◌, subst}
+use mathlib.Core.Path.{◌≡◌, refl, sym, ap, ◌∙◌, subst}
 use mathlib.Core.List.{List, [], ◌∷◌}
 use native.Mathlib.Numerals.{add-one, sub-one}
 use native.Mathlib.Omega.{arith}
@@ -11,15 +11,23 @@ use borrow.Author.Tests.{le-leb, lt-leb}
 use Rattle.format.specs.Packed.{nybbles, limit}
 use Rattle.format.specs.Decoding.{value, ends, digits, zeros, shift, second, decode}
 use Rattle.format.proofs.PackedLaws.{length-nybbles, zeros_first, decode_first}
-use Rattle.packed.specs.declared.Read.{Read}
-use Rattle.packed.specs.declared.Read.TheVariants.{Number, Ends, Mark}
+use Rattle.std.specs.Prelude.{Some, None, Result, Ok, Err}
+use Rattle.packed.specs.declared.Number.{Number}
+use Rattle.packed.specs.declared.Unread.{Unread}
+use Rattle.packed.specs.declared.Unread.TheVariants.{Ends, Mark}
+use Rattle.std.proofs.lemmas.Option.{none-some, same_Some}
 use Rattle.packed.specs.Answer.{from, cap, to_read, read_at, Skipped, NotShort, IsShort}
 
--- Digits are wanted, and there are none.
-pub digits_none : (l k : ℕ) → 0 < l → digits l k [] ≡ ends
+-- Fewer digits are there than are wanted.
+pub digits_few : (l k : ℕ) (xs : List ℕ) → length xs < l → digits l k xs ≡ ends
 unfolding digits
-digits_none zero k h = absurd (omega arith)
-digits_none (suc l) k h = refl
+digits_few zero k xs h = absurd (omega arith)
+digits_few (suc l) k [] h = refl
+digits_few (suc l) k (x ∷ xs) h = digits_few l (k * 16 + x) xs (omega arith)
+
+-- A number that is read, by its parts.
+pub number_is : {a b c d : ℕ} → a ≡ b → c ≡ d → ◌≡◌ {A = Result Number Unread} (Ok (record { n = a; next = c })) (Ok (record { n = b; next = d }))
+number_is p q = cc
 
 -- The nybbles from a place on.
 
@@ -63,9 +71,9 @@ module _ (s : List ℕ) where
   -- What is read.
 
   -- A number m that ends before the place j.
-  pub number_at : (n m j : ℕ) → n ≡ min m cap → j ≤ 2 * length s → Number n j ≡ to_read s (value m (from s j))
+  pub number_at : (n m j : ℕ) → n ≡ min m cap → j ≤ 2 * length s → Ok (record { n = n; next = j }) ≡ to_read s (value m (from s j))
   unfolding to_read
-  number_at n m j e h = rw (from_length j) (ap₂ Number e (omega arith))
+  number_at n m j e h = rw (from_length j) (number_is e (omega arith))
 
   -- The loops' invariants.
 
@@ -103,9 +111,9 @@ module _ (s : List ℕ) where
     pub more : 16 ≤ sum + 15 * (left + 1 - z)
 
   -- At first.
-  pub summed_first : (at z first : ℕ) → at ≤ 2 * length s → 1 ≤ first → first < 16 → Summed at z first z first at
-  summed_first at z first h p q =
-      record { sum = first; held = omega arith; same = refl; high = h; some = p; more = omega arith }
+  pub summed_first : (at z first left : ℕ) → at ≤ 2 * length s → 1 ≤ first → first < 16 → left ≡ z → Summed at z first left first at
+  summed_first at z first left h p q e =
+      record { sum = first; held = omega arith; same = rw e refl; high = h; some = p; more = omega arith }
 
   -- After one digit d more.
   pub summed_step : (at z first left k j d left' k' j' : ℕ) → Summed at z first left k j → j < 2 * length s → 0 < left
@@ -123,31 +131,30 @@ module _ (s : List ℕ) where
         more = omega arith;
       }
 
-  -- A digit is wanted, and there is none.
-  pub summed_none : (at z first left k j m : ℕ) → Summed at z first left k j → 2 * length s ≤ j → 0 < left
-      → Ends ≡ to_read s (shift m (digits z first (from s at)))
+  -- Fewer nybbles are left than digits are wanted.
+  pub summed_none : (at z first m : ℕ) → 2 * length s - at < z → Err Ends ≡ to_read s (shift m (digits z first (from s at)))
   unfolding to_read shift
-  summed_none at z first left k j m w h p = rw (w.same, from_end j h, digits_none left w.sum p) refl
+  summed_none at z first m h = rw (digits_few z first (from s at) (omega (arith, from_length at))) refl
 
   -- All digits are read.
-  pub summed_all : (at z first left k j m n : ℕ) → Summed at z first left k j → left ≡ 0 → 1 ≤ z → m ≤ 208 → n ≡ min (k - 15 + m) cap
-      → Number n j ≡ to_read s (shift m (digits z first (from s at)))
+  pub summed_all : (at z first left k j m n next : ℕ) → Summed at z first left k j → left ≡ 0 → next ≡ j → 1 ≤ z → m ≤ 208 → n ≡ min (k - 15 + m) cap
+      → Ok (record { n = n; next = next }) ≡ to_read s (shift m (digits z first (from s at)))
   unfolding shift digits
-  summed_all at z first left k j m n w e p l q =
+  summed_all at z first left k j m n next w e g p l q =
       let o = w.more in
       let d = w.held in
-      rw (w.same, e) (number_at n (w.sum - 15 + m) j (omega arith) w.high)
+      rw (w.same, e, g) (number_at n (w.sum - 15 + m) j (omega arith) w.high)
 
   -- What `read_large` answers, by the place j past the zeros.
 
   module _ (at j m : ℕ) (k : Skipped s at j) where
     -- Only zeros are left.
-    pub large_none : 2 * length s ≤ j → Ends ≡ to_read s (shift m (zeros 1 (from s at)))
+    pub large_none : 2 * length s ≤ j → Err Ends ≡ to_read s (shift m (zeros 1 (from s at)))
     unfolding to_read shift zeros
     large_none h = rw (k.same 1, from_end j h) refl
 
     -- The nybble d there is the first digit, and z digits more follow.
-    pub large_some : (d z : ℕ) (r : Read) → j < 2 * length s → d ≡ get_or (nybbles s) j 0 → z ≡ j - at + 1
+    pub large_some : (d z : ℕ) (r : Result Number Unread) → j < 2 * length s → d ≡ get_or (nybbles s) j 0 → z ≡ j - at + 1
         → r ≡ to_read s (shift m (digits z d (from s (j + 1)))) → r ≡ to_read s (shift m (zeros 1 (from s at)))
     large_some d z r h e p q =
         q ∙ rw (k.same 1, p, first_digit at j d h e (rw e (k.stop h))) refl
@@ -155,7 +162,7 @@ module _ (s : List ℕ) where
   -- What `read_number` answers.
 
   -- At the end, nothing is read.
-  pub read_past : (at f : ℕ) → 2 * length s ≤ at → Ends ≡ read_at s at f
+  pub read_past : (at f : ℕ) → 2 * length s ≤ at → Err Ends ≡ read_at s at f
   unfolding read_at to_read decode
   read_past at f h = rw (from_end at h) refl
 
@@ -169,23 +176,23 @@ module _ (s : List ℕ) where
     cons = from_cons at h
 
     -- It is zero: the digits of a large number follow.
-    pub read_zero : x ≡ 0 → (m : ℕ) (r : Read) → m ≡ limit f → r ≡ to_read s (shift m (zeros 1 (from s (at + 1)))) → r ≡ read_at s at f
+    pub read_zero : x ≡ 0 → (m : ℕ) (r : Result Number Unread) → m ≡ limit f → r ≡ to_read s (shift m (zeros 1 (from s (at + 1)))) → r ≡ read_at s at f
     unfolding read_at decode
     read_zero z m r p q = q ∙ rw (cons, z, p) refl
 
     -- It is a number by itself.
-    pub read_one : 0 < x → x < 16 → x ≤ f → (a k : ℕ) → a ≡ x → k ≡ at + 1 → Number a k ≡ read_at s at f
+    pub read_one : 0 < x → x < 16 → x ≤ f → (a k : ℕ) → a ≡ x → k ≡ at + 1 → Ok (record { n = a; next = k }) ≡ read_at s at f
     unfolding read_at
     read_one p q r a k e g = rw (cons, decode_first f x (from s (at + 1)) p, le-leb x f r, g) (number_at a x (at + 1) (omega arith) (omega arith))
 
     -- It is 14 or 15.
-    pub read_mark : 13 < x → f < x → Mark ≡ read_at s at f
+    pub read_mark : 13 < x → f < x → Err Mark ≡ read_at s at f
     unfolding read_at to_read
     read_mark p r = rw (cons, decode_first f x (from s (at + 1)) (omega arith), lt-leb x f r, lt-leb x 13 p) refl
 
     -- A number of two nybbles.
     pub read_two : x ≤ 13 → f < x → at + 1 < 2 * length s → get_or (nybbles s) (at + 1) 0 < 16
-        → (n k : ℕ) → n ≡ (x - f - 1) * 16 + get_or (nybbles s) (at + 1) 0 + f + 1 → k ≡ at + 2 → Number n k ≡ read_at s at f
+        → (n k : ℕ) → n ≡ (x - f - 1) * 16 + get_or (nybbles s) (at + 1) 0 + f + 1 → k ≡ at + 2 → Ok (record { n = n; next = k }) ≡ read_at s at f
     unfolding read_at second
     read_two p r q l n k e g =
         let g' : k ≡ at + 1 + 1 = omega arith in
@@ -196,32 +203,32 @@ module _ (s : List ℕ) where
 
 module _ (s : List ℕ) (at f : ℕ) where
   -- None begins.
-  none_short : (next : ℕ) → NotShort f (from s at) → IsShort s at f (record { n = 0; next = next })
-  none_short next t = record { some = λ e. absurd (e refl); none = λ e. t }
+  none_short : NotShort f (from s at) → IsShort s at f None
+  none_short t = record { some = λ x e. absurd (none-some x e); none = λ e. t }
+
+  -- One does.
+  some_short : (x : Number) → Ok x ≡ read_at s at f → IsShort s at f (Some x)
+  some_short x t = record { some = λ y e. sym t ∙ ap Ok (same_Some x y e); none = λ e. absurd (none-some x (sym e)) }
 
   -- At the end.
-  pub short_past : (next : ℕ) → 2 * length s ≤ at → IsShort s at f (record { n = 0; next = next })
-  short_past next h = none_short next (rw (from_end s at h) tt)
+  pub short_past : 2 * length s ≤ at → IsShort s at f None
+  short_past h = none_short (rw (from_end s at h) tt)
 
   module _ (h : at < 2 * length s) (a : ℕ) (e : a ≡ get_or (nybbles s) at 0) where
     first : from s at ≡ a ∷ from s (at + 1)
     first = rw e (from_cons s at h)
 
-    -- A nybble up to f: a zero begins no short number.
-    pub short_one : (next : ℕ) → a < 16 → a ≤ f → next ≡ at + 1 → IsShort s at f (record { n = a; next = next })
-    short_one next l m p =
-        record {
-          some = λ n. sym (read_one s at f h (positive a n e) (omega arith) (omega arith) a next e p);
-          none = λ z. rw (first, z) tt;
-        }
-      where
-        positive : (a : ℕ) → (a ≡ 0 → ⊥) → a ≡ get_or (nybbles s) at 0 → 0 < get_or (nybbles s) at 0
-        positive zero n e = absurd (n refl)
-        positive (suc a) n e = omega arith
+    -- A zero begins no short number.
+    pub short_zero : a ≡ 0 → IsShort s at f None
+    short_zero z = none_short (rw (first, z) tt)
+
+    -- A nybble up to f.
+    pub short_one : (next : ℕ) → a < 16 → a ≤ f → 0 < a → next ≡ at + 1 → IsShort s at f (Some (record { n = a; next = next }))
+    short_one next l m n p = some_short _ (read_one s at f h (omega arith) (omega arith) (omega arith) a next e p)
 
     -- 14 or 15.
-    pub short_mark : (next : ℕ) → 13 < a → f < a → IsShort s at f (record { n = 0; next = next })
-    short_mark next p q = none_short next (rw first (go a (from s (at + 1)) p q))
+    pub short_mark : 13 < a → f < a → IsShort s at f None
+    short_mark p q = none_short (rw first (go a (from s (at + 1)) p q))
       where
         go : (a : ℕ) (ys : List ℕ) → 13 < a → f < a → NotShort f (a ∷ ys)
         go zero ys p q = absurd (omega arith)
@@ -229,8 +236,8 @@ module _ (s : List ℕ) (at f : ℕ) where
         go (suc a) (b ∷ ys) p q = p
 
     -- A second nybble is wanted, and there is none.
-    pub short_alone : (next : ℕ) → f < a → 2 * length s ≤ at + 1 → IsShort s at f (record { n = 0; next = next })
-    short_alone next q k = none_short next (rw (first ∙ ap (λ (y : List ℕ). a ∷ y) (from_end s (at + 1) k)) (go a q))
+    pub short_alone : f < a → 2 * length s ≤ at + 1 → IsShort s at f None
+    short_alone q k = none_short (rw (first ∙ ap (λ (y : List ℕ). a ∷ y) (from_end s (at + 1) k)) (go a q))
       where
         go : (a : ℕ) → f < a → NotShort f (a ∷ [])
         go zero q = absurd (omega arith)
@@ -238,15 +245,12 @@ module _ (s : List ℕ) (at f : ℕ) where
 
     -- Two nybbles.
     pub short_two : (b n next : ℕ) → a ≤ 13 → f < a → at + 1 < 2 * length s → b ≡ get_or (nybbles s) (at + 1) 0 → b < 16 → n ≡ (a - f - 1) * 16 + b + f + 1 → next ≡ at + 2
-        → IsShort s at f (record { n = n; next = next })
+        → IsShort s at f (Some (record { n = n; next = next }))
     short_two b n next l m k q i p z =
-        record {
-          some = λ _. sym (read_two s at f h (omega arith) (omega arith) k (omega arith) n next (rw (← e, ← q) p) z);
-          none = λ y. absurd (omega arith);
-        }
+        some_short _ (read_two s at f h (omega arith) (omega arith) k (omega arith) n next (rw (← e, ← q) p) z)
 
     -- Where none begins, and it is neither a zero nor a mark, the nybbles end.
-    pub read_alone : NotShort f (from s at) → 0 < a → a ≤ 13 → Ends ≡ read_at s at f
+    pub read_alone : NotShort f (from s at) → 0 < a → a ≤ 13 → Err Ends ≡ read_at s at f
     unfolding read_at to_read second
     read_alone t p q = go (from s (at + 1)) refl
       where
@@ -258,6 +262,6 @@ module _ (s : List ℕ) (at f : ℕ) where
         marked zero b ys t p q = omega arith
         marked (suc a) b ys t p q = omega arith
 
-        go : (ys : List ℕ) → from s (at + 1) ≡ ys → Ends ≡ read_at s at f
+        go : (ys : List ℕ) → from s (at + 1) ≡ ys → Err Ends ≡ read_at s at f
         go [] z = rw (first, z, decode_first f a [] p, lt-leb a f (alone a (subst (NotShort f) (first ∙ ap (λ (y : List ℕ). a ∷ y) z) t) p), le-leb a 13 q) refl
         go (b ∷ ys) z = absurd (marked a b ys (subst (NotShort f) (first ∙ ap (λ (y : List ℕ). a ∷ y) z) t) p q)

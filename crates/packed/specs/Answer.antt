@@ -1,10 +1,10 @@
 -- What the functions of this crate answer. Assumes nothing: these are definitions.
-use Rattle.std.specs.Prelude.{ℕ, zero, suc, ◌+◌, ◌-◌, ◌*◌, ◌≤◌, ◌<◌, min, ◌≡◌, List, [], ◌∷◌, length, drop, get_or}
+use Rattle.std.specs.Prelude.{ℕ, zero, suc, ◌+◌, ◌-◌, ◌*◌, ◌≤◌, ◌<◌, min, ◌≡◌, List, [], ◌∷◌, length, drop, get_or, Option, Some, None, Result, Ok, Err}
 use Rattle.format.specs.Packed.{nybbles}
 use Rattle.format.specs.Decoding.{Got, value, ends, mark, zeros, decode}
-use Rattle.packed.specs.declared.Short.{Short}
-use Rattle.packed.specs.declared.Read.{Read}
-use Rattle.packed.specs.declared.Read.TheVariants.{Number, Ends, Mark}
+use Rattle.packed.specs.declared.Number.{Number}
+use Rattle.packed.specs.declared.Unread.{Unread}
+use Rattle.packed.specs.declared.Unread.TheVariants.{Ends, Mark}
 
 -- The nybbles of the bytes s from the place at on.
 unfoldable pub from : List ℕ → ℕ → List ℕ
@@ -15,13 +15,13 @@ abbrev pub cap : ℕ
 cap = 65537
 
 -- What is read, with the place of the nybble after it.
-unfoldable pub to_read : List ℕ → Got → Read
-to_read s (value n rest) = Number (min n cap) (2 * length s - length rest)
-to_read s ends = Ends
-to_read s mark = Mark
+unfoldable pub to_read : List ℕ → Got → Result Number Unread
+to_read s (value n rest) = Ok (record { n = min n cap; next = 2 * length s - length rest })
+to_read s ends = Err Ends
+to_read s mark = Err Mark
 
 -- The packed number that begins at the place at of the bytes s, for f.
-unfoldable pub read_at : List ℕ → ℕ → ℕ → Read
+unfoldable pub read_at : List ℕ → ℕ → ℕ → Result Number Unread
 read_at s at f = to_read s (decode f (from s at))
 
 -- r is past the zeros from at on.
@@ -39,6 +39,6 @@ NotShort f (suc a ∷ []) = f < suc a
 NotShort f (suc a ∷ b ∷ xs) = 13 < suc a
 
 -- The number of one or two nybbles that begins at a place, or that none does.
-pub record IsShort (s : List ℕ) (at f : ℕ) (r : Short) : Type 0 where
-  pub some : (r.n ≡ 0 → ⊥) → read_at s at f ≡ Number r.n r.next
-  pub none : r.n ≡ 0 → NotShort f (from s at)
+pub record IsShort (s : List ℕ) (at f : ℕ) (r : Option Number) : Type 0 where
+  pub some : (x : Number) → r ≡ Some x → read_at s at f ≡ Ok x
+  pub none : r ≡ None → NotShort f (from s at)

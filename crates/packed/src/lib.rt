@@ -1,26 +1,40 @@
 // Packed numbers: one is read from the nybbles of a slice, however many zeros and digits it has.
 #![tactic(auto)]
 
-ghost use Prim.Native.Nat.{◌*◌, ◌≤◌, ◌<◌};
-ghost use Rattle.std.specs.Prelude.{◌≡◌, length};
+ghost use Rattle.std.specs.Prelude.{◌*◌, ◌+◌, ◌≤◌, ◌<◌, ◌≡◌, ◌↔◌, length, IfSome, IsNone};
 ghost use Rattle.format.specs.Packed.{limit};
 ghost use Rattle.format.specs.Decoding.{digits, zeros, shift};
 ghost use Rattle.packed.specs.Answer.{from, to_read, read_at, Skipped, IsShort};
 
-// What is read: a number, 65,537 for any above 65,536, and the place of the next nybble; that the nybbles end inside it; that a
-// 14 or 15 stands where it must begin.
+// A number that is read, 65,537 for any above 65,536, and the place of the next nybble.
 #[derive(Clone, Copy)]
-pub enum Read {
-    Number(usize, usize),
+pub struct Number {
+    pub n: usize,
+    pub next: usize,
+}
+
+// Why none is read: the nybbles end inside it, or a 14 or 15 stands where it must begin.
+#[derive(Clone, Copy)]
+pub enum Unread {
     Ends,
     Mark,
 }
 
-// A number of one or two nybbles and the place of the next; n is 0 where none begins. Most numbers are such.
+// The f of a raster of runs.
 #[derive(Clone, Copy)]
-pub struct Short {
+pub struct Factor {
     pub n: usize,
-    pub next: usize,
+    pub ghost small: { n ≤ 13 },
+}
+
+impl Factor {
+    // None above 13.
+    pub fn new(n: usize) -> Option<Factor>
+        ensures some { IfSome result (λ x. x.n ≡ n) }
+        ensures none { IsNone result ↔ (13 < n) }
+    {
+        if 13 < n { None } else { Some(Factor { n }) }
+    }
 }
 
 // Above every limit: no run or repeat of a raster is so long.
@@ -35,18 +49,10 @@ const LIMITS: [usize; 14] = [
 ];
 
 // M = 208 - 15 * f.
-pub fn limit_of(f: usize) -> usize
-    requires { f ≤ 13 }
-    ensures { result ≡ limit f }
+pub fn limit_of(f: Factor) -> usize
+    ensures { result ≡ limit f.n }
 {
-    LIMITS[f]
-}
-
-// The smaller of the two.
-fn least(x: usize, y: usize) -> usize
-    ensures { result ≡ Prim.Native.Nat.min x y }
-{
-    if x <= y { x } else { y }
+    LIMITS[f.n]
 }
 
 // The place of the first nybble from at on that is not zero, or the end of the nybbles.
@@ -55,96 +61,90 @@ fn skip_zeros(s: &[u8], at: usize) -> usize
     ensures { Skipped s.now at result }
 {
     let end = 2 * s.len();
-    let mut j = at;
-    while j < end {
+    for j in at..end {
         if nybbles::nybble(s, j) != 0 {
             return j;
         }
-        j += 1;
     }
-    j
+    end
 }
 
 // z digits more, from at on, after a first digit, for the limit m.
-fn read_digits(s: &[u8], at: usize, z: usize, first: usize, m: usize) -> Read
+fn read_digits(s: &[u8], at: usize, z: usize, first: usize, m: usize) -> Result<Number, Unread>
     requires { (at ≤ 2 * length s.now) × (1 ≤ z) × (1 ≤ first) × (first < 16) × (m ≤ 208) }
     ensures { result ≡ to_read s.now (shift m (digits z first (from s.now at))) }
 {
-    let end = 2 * s.len();
-    let mut left = z;
-    let mut k = first;
-    let mut j = at;
-    while 0 < left {
-        if end <= j {
-            return Read::Ends;
-        }
-        let d = nybbles::nybble(s, j);
-        k = least(k * 16 + d, CAP);
-        j += 1;
-        left -= 1;
+    if 2 * s.len() - at < z {
+        return Err(Unread::Ends);
     }
-    Read::Number(least(k - 15 + m, OVER), j)
+    let next = at + z;
+    let mut k = first;
+    for j in at..next {
+        k = (k * 16 + nybbles::nybble(s, j)).min(CAP);
+    }
+    Ok(Number {
+        n: (k - 15 + m).min(OVER),
+        next,
+    })
 }
 
 // From at on, after a first zero, for the limit m.
-fn read_large(s: &[u8], at: usize, m: usize) -> Read
+fn read_large(s: &[u8], at: usize, m: usize) -> Result<Number, Unread>
     requires { (1 ≤ at) × (at ≤ 2 * length s.now) × (m ≤ 208) }
     ensures { result ≡ to_read s.now (shift m (zeros 1 (from s.now at))) }
 {
     let end = 2 * s.len();
     let j = skip_zeros(s, at);
     if end <= j {
-        return Read::Ends;
+        return Err(Unread::Ends);
     }
     let a = nybbles::nybble(s, j);
     read_digits(s, j + 1, j - at + 1, a, m)
 }
 
-// The packed number of one or two nybbles whose first is at `at`, for f.
-pub fn short_at(s: &[u8], at: usize, f: usize) -> Short
-    requires { f ≤ 13 }
-    ensures { IsShort s.now at f result }
+// The packed number of one or two nybbles whose first is at `at`, for f. Most numbers are such.
+pub fn short_at(s: &[u8], at: usize, f: Factor) -> Option<Number>
+    ensures { IsShort s.now at f.n result }
 {
     let end = 2 * s.len();
     if end <= at {
-        return Short { n: 0, next: at };
+        return None;
     }
     let a = nybbles::nybble(s, at);
-    if a <= f {
-        return Short { n: a, next: at + 1 };
+    let next = at + 1;
+    if a <= f.n {
+        return if a == 0 {
+            None
+        } else {
+            Some(Number { n: a, next })
+        };
     }
     if 13 < a {
-        return Short { n: 0, next: at };
+        return None;
     }
-    let next = at + 1;
     if end <= next {
-        return Short { n: 0, next };
+        return None;
     }
     let b = nybbles::nybble(s, next);
-    Short {
-        n: (a - f - 1) * 16 + b + f + 1,
+    Some(Number {
+        n: (a - f.n - 1) * 16 + b + f.n + 1,
         next: next + 1,
-    }
+    })
 }
 
 // The packed number whose first nybble is at `at`, for f.
-pub fn read_number(s: &[u8], at: usize, f: usize) -> Read
-    requires { f ≤ 13 }
-    ensures { result ≡ read_at s.now at f }
+pub fn read_number(s: &[u8], at: usize, f: Factor) -> Result<Number, Unread>
+    ensures { result ≡ read_at s.now at f.n }
 {
-    let short = short_at(s, at, f);
-    if short.n != 0 {
-        return Read::Number(short.n, short.next);
+    if let Some(number) = short_at(s, at, f) {
+        return Ok(number);
     }
     if 2 * s.len() <= at {
-        return Read::Ends;
+        return Err(Unread::Ends);
     }
-    let x = nybbles::nybble(s, at);
-    if x == 0 {
-        return read_large(s, at + 1, limit_of(f));
+    match nybbles::nybble(s, at) {
+        0 => read_large(s, at + 1, limit_of(f)),
+        14.. => Err(Unread::Mark),
+        _ => Err(Unread::Ends),
     }
-    if 13 < x {
-        return Read::Mark;
-    }
-    Read::Ends
 }

@@ -16,11 +16,14 @@ use Rattle.format.specs.Pieces.{Form, short, extended, long, kinds, fixed, packe
 use Rattle.format.specs.Decoding.{number, value_of, read_fields}
 use Rattle.format.specs.Verdict.{piece, at_least, form_of, Header, header, packet_of, raster_at, packet_at}
 use Rattle.format.proofs.PieceLaws.{Bits, form_is_lem}
+use Rattle.std.specs.declared.result.Result.{Result}
+use Rattle.std.specs.declared.result.Result.TheVariants.{Ok, Err}
+use Rattle.refusals.specs.declared.Refusal.{Refusal}
 use Rattle.refusals.specs.Names.{coded}
 use Rattle.packet.proofs.LimitLaws.{Low, limits_raw, code_raw, limits_own, code_own}
 use Rattle.packet.specs.declared.Fields.{Fields}
 use Rattle.packet.specs.declared.Piece.{Piece}
-use Rattle.packet.specs.declared.Piece.TheVariants.{Packet, Refused}
+use Rattle.packet.specs.declared.Piece.TheVariants.{Packet}
 use Rattle.packet.specs.Outlines.{piece_of, outlined, fields_of, fields_at, narrow_form, outline_as, judged_as}
 
 -- The raster.
@@ -32,10 +35,10 @@ record Lows (x : Header) : Type 0 where
   code : Low x.code
 
 -- The checks 4, 7, 8 on numbers, with `room` bytes for n raster bytes.
-abbrev rastered : ℕ → Fields → ℕ → ℕ → ℕ → ℕ → Piece
+abbrev rastered : ℕ → Fields → ℕ → ℕ → ℕ → ℕ → Result Piece Refusal
 rastered b x fixed place room n =
-    cond (ltb room n) (Refused (coded file_ends))
-    (cond (in_limits x.w x.h) (cond (ltb x.code 256) (Packet (outline_as b x fixed place)) (Refused (coded bad_code))) (Refused (coded outside_limits)))
+    cond (ltb room n) (Err (coded file_ends))
+    (cond (in_limits x.w x.h) (cond (ltb x.code 256) (Ok (Packet (outline_as b x fixed place))) (Err (coded bad_code))) (Err (coded outside_limits)))
 
 raster_raw : (b end place fixed n : ℕ) (x : Header) (t : List ℕ) → place + length t ≡ end → twos 4 x.length - fixed ≡ n → Lows x
     → piece_of end (raster_at b x n t) ≡ rastered b (fields_of x) fixed place (length t) n
@@ -82,7 +85,7 @@ length_raw b end place fixed x t (pos n) e f l = rw (lt-leb 2147483648 n f) (go 
   where
     go : (p : Bool) → leb fixed n ≡ p
         → piece_of end (need p bad_length >>= λ _. raster_at b (with_length x (pos n)) (n - fixed) t)
-        ≡ cond (ltb n fixed) (Refused (coded bad_length)) (rastered b (fields_of (with_length x (pos n))) fixed place (length t) (n - fixed))
+        ≡ cond (ltb n fixed) (Err (coded bad_length)) (rastered b (fields_of (with_length x (pos n))) fixed place (length t) (n - fixed))
     go true h =
         rw (le-ltb n fixed (leb-true fixed n h))
         (raster_raw b end place fixed (n - fixed) (with_length x (pos n)) t e refl (record { w = l.w; h = l.h; code = l.code }))
@@ -90,7 +93,10 @@ length_raw b end place fixed x t (pos n) e f l = rw (lt-leb 2147483648 n f) (go 
 length_raw b end place fixed x t (negsuc n) e f l =
     rw (le-leb 2147483648 (4294967296 - suc n) (omega arith)) (either (ltb (4294967296 - suc n) fixed))
   where
-    either : (p : Bool) → Refused (coded bad_length) ≡ cond p (Refused (coded bad_length)) (Refused (coded bad_length))
+    bad : Result Piece Refusal
+    bad = Err (coded bad_length)
+
+    either : (p : Bool) → bad ≡ cond p bad bad
     either true = refl
     either false = refl
 
@@ -115,7 +121,7 @@ lows long b s =
     record { w = (value_fits (number 4 t)).0; h = (value_fits (number 4 (drop 4 t))).0; code = (value_fits (number 4 (drop 4 s))).0 }
 
 -- A fixed part that the file does not hold.
-pub outlined_cut : (k : Form) (b at n : ℕ) (s : List ℕ) → n ≡ size (kinds k) → length s - at < n → Refused (record { 0 = 4 }) ≡ outlined k b at s
+pub outlined_cut : (k : Form) (b at n : ℕ) (s : List ℕ) → n ≡ size (kinds k) → length s - at < n → Err (coded file_ends) ≡ outlined k b at s
 unfolding outlined packet_at need ◌>>=◌ piece_of
 outlined_cut k b at n s e h = rw (lt-leb (size (kinds k)) (length (drop at s)) (rw length-drop (omega arith))) refl
 
@@ -148,7 +154,7 @@ narrow_fit true b s h = h
 narrow_fit false b s h = h
 
 -- The packet that the checks give.
-pub narrow_judged : (m b at c n room : ℕ) (s : List ℕ) (x : Fields) (r : Piece) → 1 ≤ m → m ≤ 2 → at ≤ length s → 6 * m + 4 ≤ length s - at
+pub narrow_judged : (m b at c n room : ℕ) (s : List ℕ) (x : Fields) (r : Result Piece Refusal) → 1 ≤ m → m ≤ 2 → at ≤ length s → 6 * m + 4 ≤ length s - at
     → (x ≡ fields_at (narrow_form m) b (drop at s)) × (x.length < 2147483648)
     → c ≡ 5 * m + 3 → n ≡ at + (6 * m + 4) → room ≡ length s - at - (6 * m + 4)
     → r ≡ judged_as b x c n room → r ≡ outlined (narrow_form m) b at s
@@ -160,7 +166,7 @@ narrow_judged m b at c n room s x r l k i h e ec en er q =
 -- The long form.
 
 -- Its fields do not look at the flag.
-pub long_judged : (b at n room : ℕ) (s : List ℕ) (x : Fields) (r : Piece) → at ≤ length s → 36 ≤ length s - at → x ≡ fields_at long 0 (drop at s)
+pub long_judged : (b at n room : ℕ) (s : List ℕ) (x : Fields) (r : Result Piece Refusal) → at ≤ length s → 36 ≤ length s - at → x ≡ fields_at long 0 (drop at s)
     → n ≡ at + 36 → room ≡ length s - at - 36 → r ≡ judged_as b x 28 n room → r ≡ outlined long b at s
 unfolding read_fields fields_at
 long_judged b at n room s x r i h e en er q =
@@ -170,5 +176,5 @@ long_judged b at n room s x r i h e en er q =
 -- The form.
 
 -- What flag mod 8 says.
-pub form_outlined : (k : Form) (b at : ℕ) (s : List ℕ) (r : Piece) → Bits k (b % 8) → r ≡ outlined k b at s → r ≡ outlined (form_of b) b at s
+pub form_outlined : (k : Form) (b at : ℕ) (s : List ℕ) (r : Result Piece Refusal) → Bits k (b % 8) → r ≡ outlined k b at s → r ≡ outlined (form_of b) b at s
 form_outlined k b at s r h e = e ∙ ap (λ (j : Form). outlined j b at s) (sym (form_is_lem k b h))

@@ -1,17 +1,20 @@
 -- What the functions of this crate answer, in the terms of the verdict. Assumes nothing: these are definitions.
-use Rattle.std.specs.Prelude.{ℕ, ◌+◌, ◌-◌, ◌/◌, ◌%◌, cond, List, ltb, leb, eqb, length, drop}
+use Rattle.std.specs.Prelude.{ℕ, ◌+◌, ◌-◌, ◌/◌, ◌%◌, cond, Ok, Err, List, ltb, leb, eqb, length, drop}
 use Rattle.format.specs.Limits.{in_limits}
-use Rattle.format.specs.Refusals.{file_ends, bad_length, outside_limits, bad_code, Result, ok, fault}
+use Rattle.std.specs.declared.result.Result.{Result}
+use Rattle.format.specs.Refusals as R
+use Rattle.format.specs.Refusals.{file_ends, bad_length, outside_limits, bad_code, ok, fault}
 use Rattle.format.specs.Numbers.{twos}
 use Rattle.format.specs.Pieces as F
 use Rattle.format.specs.Pieces.{Form, short, extended, kinds}
 use Rattle.format.specs.Decoding.{read_fields}
 use Rattle.format.specs.Verdict.{Front, piece, last, Header, header, packet_at}
 use Rattle.refusals.specs.Names.{coded}
+use Rattle.refusals.specs.declared.Refusal.{Refusal}
 use Rattle.packet.specs.declared.Outline.{Outline}
 use Rattle.packet.specs.declared.Fields.{Fields}
 use Rattle.packet.specs.declared.Piece.{Piece}
-use Rattle.packet.specs.declared.Piece.TheVariants.{Packet, Command, Last, Refused}
+use Rattle.packet.specs.declared.Piece.TheVariants.{Packet, Command, Last}
 
 -- A piece.
 
@@ -29,16 +32,16 @@ outline_of p end =
     }
 
 -- What stands at the front of bytes that reach to the end n of the file, with the place behind it.
-unfoldable pub piece_of : ℕ → Result Front → Piece
-piece_of n (ok (piece (F.special k xs) r)) = Command (n - length r)
-piece_of n (ok (piece (F.numeric xs) r)) = Command (n - length r)
-piece_of n (ok (piece F.noop r)) = Command (n - length r)
-piece_of n (ok (piece (F.packet p) r)) = Packet (outline_of p (n - length r))
-piece_of n (ok (last r)) = Last
-piece_of n (fault x) = Refused (coded x)
+unfoldable pub piece_of : ℕ → R.Result Front → Result Piece Refusal
+piece_of n (ok (piece (F.special k xs) r)) = Ok (Command (n - length r))
+piece_of n (ok (piece (F.numeric xs) r)) = Ok (Command (n - length r))
+piece_of n (ok (piece F.noop r)) = Ok (Command (n - length r))
+piece_of n (ok (piece (F.packet p) r)) = Ok (Packet (outline_of p (n - length r)))
+piece_of n (ok (last r)) = Ok Last
+piece_of n (fault x) = Err (coded x)
 
 -- The packet of a form with the flag b, whose fields stand at a place of the font s.
-unfoldable pub outlined : Form → ℕ → ℕ → List ℕ → Piece
+unfoldable pub outlined : Form → ℕ → ℕ → List ℕ → Result Piece Refusal
 outlined k b at s = piece_of (length s) (packet_at b k (header k b (read_fields (kinds k) (drop at s))) (drop at s))
 
 -- Its fields.
@@ -69,9 +72,9 @@ outline_as b x fixed place =
     }
 
 -- The checks 6, 4, 7, 8 on fields as the numbers that their bytes are, with `room` bytes from a place on.
-unfoldable pub judged_as : ℕ → Fields → ℕ → ℕ → ℕ → Piece
+unfoldable pub judged_as : ℕ → Fields → ℕ → ℕ → ℕ → Result Piece Refusal
 judged_as b x fixed place room =
-    cond (ltb x.length fixed) (Refused (coded bad_length))
-    (cond (leb 2147483648 x.length) (Refused (coded bad_length))
-    (cond (ltb room (x.length - fixed)) (Refused (coded file_ends))
-    (cond (in_limits x.w x.h) (cond (ltb x.code 256) (Packet (outline_as b x fixed place)) (Refused (coded bad_code))) (Refused (coded outside_limits)))))
+    cond (ltb x.length fixed) (Err (coded bad_length))
+    (cond (leb 2147483648 x.length) (Err (coded bad_length))
+    (cond (ltb room (x.length - fixed)) (Err (coded file_ends))
+    (cond (in_limits x.w x.h) (cond (ltb x.code 256) (Ok (Packet (outline_as b x fixed place))) (Err (coded bad_code))) (Err (coded outside_limits)))))

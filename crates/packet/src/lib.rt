@@ -11,7 +11,7 @@ use refusals::Refusal;
 
 // What a packet is without its measures: f and the black bit, the code, the width and height, where its raster begins, and where
 // the packet ends.
-#[derive(Clone, Copy)]
+#[derive(Clone, Copy, Debug, PartialEq, Eq)]
 pub struct Outline {
     pub f: usize,
     pub black: bool,
@@ -22,13 +22,12 @@ pub struct Outline {
     pub end: usize,
 }
 
-// What stands at a place: a packet; a command, with the place behind it; the 245; or a fault.
-#[derive(Clone, Copy)]
+// What stands at a place: a packet; a command, with the place behind it; or the 245.
+#[derive(Clone, Copy, Debug, PartialEq, Eq)]
 pub enum Piece {
     Packet(Outline),
     Command(usize),
     Last,
-    Refused(Refusal),
 }
 
 // Fields as the numbers that their bytes are, not yet judged.
@@ -73,16 +72,10 @@ fn long_fields(s: &[u8], at: usize) -> Fields
 pub fn in_limits(w: u64, h: u64) -> bool
     ensures { result ≡ in_limits w h }
 {
-    if w == 0 {
-        return h == 0;
+    if w == 0 || h == 0 {
+        return w == h;
     }
-    if h == 0 {
-        return false;
-    }
-    if 65536 < w {
-        return false;
-    }
-    if 65536 < h {
+    if 65536 < w || 65536 < h {
         return false;
     }
     w * h <= 65536
@@ -90,70 +83,64 @@ pub fn in_limits(w: u64, h: u64) -> bool
 
 // The checks 6, 4, 7 and 8 on the fields of a packet with the flag b, of whose length `fixed` bytes stand before `place`; `room` bytes stand
 // from there on.
-fn judged(b: usize, x: Fields, fixed: u64, place: usize, room: usize) -> Piece
+#[tactic(auto, unfolding(crate::specs::Outlines::judged_as))]
+fn judged(b: usize, x: Fields, fixed: u64, place: usize, room: usize) -> Result<Piece, Refusal>
     requires { place + room < 18446744073709551616 }
     ensures { result ≡ judged_as b x fixed place room }
 {
-    let length = x.length;
-    let code = x.code;
-    let w = x.w;
-    let h = x.h;
-    if length < fixed {
-        return Piece::Refused(Refusal::BAD_LENGTH);
+    if x.length < fixed || fields::NEGATIVE <= x.length {
+        return Err(Refusal::BadLength);
     }
-    if fields::NEGATIVE <= length {
-        return Piece::Refused(Refusal::BAD_LENGTH);
-    }
-    let bytes = (length - fixed) as usize;
+    let bytes = (x.length - fixed) as usize;
     if room < bytes {
-        return Piece::Refused(Refusal::FILE_ENDS);
+        return Err(Refusal::FileEnds);
     }
-    if !in_limits(w, h) {
-        return Piece::Refused(Refusal::OUTSIDE_LIMITS);
+    if !in_limits(x.w, x.h) {
+        return Err(Refusal::OutsideLimits);
     }
-    if 256 <= code {
-        return Piece::Refused(Refusal::BAD_CODE);
+    if 256 <= x.code {
+        return Err(Refusal::BadCode);
     }
-    Piece::Packet(Outline {
+    Ok(Piece::Packet(Outline {
         f: b / 16,
         black: b / 8 % 2 == 1,
-        code: code as usize,
-        w: w as usize,
-        h: h as usize,
+        code: x.code as usize,
+        w: x.w as usize,
+        h: x.h as usize,
         raster: place,
         end: place + bytes,
-    })
+    }))
 }
 
 // The packet with the flag b and fields of m bytes, which stand at `at`: 6m + 4 bytes, of which the length counts 5m + 3.
-fn narrow(s: &[u8], at: usize, b: usize, m: usize) -> Piece
+fn narrow(s: &[u8], at: usize, b: usize, m: usize) -> Result<Piece, Refusal>
     requires { (at ≤ length s.now) × (1 ≤ m) × (m ≤ 2) }
     ensures { result ≡ outlined (narrow_form m) b at s.now }
 {
     let size = 6 * m + 4;
     let room = s.len() - at;
     if room < size {
-        return Piece::Refused(Refusal::FILE_ENDS);
+        return Err(Refusal::FileEnds);
     }
     let x = narrow_fields(s, at, b, m);
     judged(b, x, (5 * m + 3) as u64, at + size, room - size)
 }
 
 // The long packet with the flag b, whose fields stand at `at`: 36 bytes, of which the length counts 28.
-fn long(s: &[u8], at: usize, b: usize) -> Piece
+fn long(s: &[u8], at: usize, b: usize) -> Result<Piece, Refusal>
     requires { at ≤ length s.now }
     ensures { result ≡ outlined long b at s.now }
 {
     let room = s.len() - at;
     if room < 36 {
-        return Piece::Refused(Refusal::FILE_ENDS);
+        return Err(Refusal::FileEnds);
     }
     let x = long_fields(s, at);
     judged(b, x, 28, at + 36, room - 36)
 }
 
 // The packet with the flag b, whose fields stand at `at`.
-pub fn packet_at(s: &[u8], at: usize, b: usize) -> Piece
+pub fn packet_at(s: &[u8], at: usize, b: usize) -> Result<Piece, Refusal>
     requires { at ≤ length s.now }
     ensures { result ≡ outlined (form_of b) b at s.now }
 {

@@ -1,5 +1,5 @@
 -- What the functions of this crate answer. Assumes nothing: these are definitions.
-use Rattle.std.specs.Prelude.{ℕ, ◌≡◌, Bool, true, false, ◌&&◌, ltb, ℤ, pos, negsuc, replicate}
+use Rattle.std.specs.Prelude.{ℕ, ◌≡◌, Bool, true, false, ◌&&◌, ltb, ℤ, pos, negsuc, replicate, Some, None}
 use Rattle.std.specs.Int.Signed.{mag}
 use Rattle.format.specs.Limits.{within_limits, is_code}
 use Rattle.format.specs.Refusals.{no_form, ok, fault}
@@ -7,8 +7,9 @@ use Rattle.format.specs.Measures as F
 use Rattle.format.specs.Pieces.{Form, short, extended, long, Packet}
 use Rattle.format.specs.Choice.{in_form, first_form}
 use Rattle.escapement.specs.Count.{whole_of}
+use Rattle.std.specs.declared.option.Option.{Option}
 use Rattle.pick.specs.declared.Picked.{Picked}
-use Rattle.pick.specs.declared.Picked.TheVariants.{Short, Extended, Long, Nothing}
+use Rattle.pick.specs.declared.Picked.TheVariants.{Short, Extended, Long}
 
 -- The width, height and code are within 01's limits.
 pub record Judged (m : F.Measures) : Type 0 where
@@ -19,12 +20,16 @@ pub record Judged (m : F.Measures) : Type 0 where
 abbrev pub tried : F.Measures → ℕ → Form → Packet
 tried m n k = in_form 0 false m (replicate n 0) k
 
--- The first form that holds, with the whole pixels of its escapement and the offsets; or that none does.
+-- The first form that holds, with the whole pixels of its escapement and the offsets.
 abbrev pub IsPicked : F.Measures → ℕ → Picked → Type 0
 IsPicked m n (Short dm x y) = (first_form m (tried m n) ≡ ok (tried m n short)) × (whole_of dm ≡ F.whole_pixels m.dx) × (x ≡ m.hoff) × (y ≡ m.voff)
 IsPicked m n (Extended dm x y) = (first_form m (tried m n) ≡ ok (tried m n extended)) × (whole_of dm ≡ F.whole_pixels m.dx) × (x ≡ m.hoff) × (y ≡ m.voff)
 IsPicked m n (Long x y) = (first_form m (tried m n) ≡ ok (tried m n long)) × (x ≡ m.hoff) × (y ≡ m.voff)
-IsPicked m n Nothing = first_form m (tried m n) ≡ fault no_form
+
+-- That form, or none where none holds.
+abbrev pub Picks : F.Measures → ℕ → Option Picked → Type 0
+Picks m n (Some p) = IsPicked m n p
+Picks m n None = first_form m (tried m n) ≡ fault no_form
 
 -- Tests.
 

@@ -6,6 +6,8 @@ ghost use Rattle.format.specs.Limits.{in_limits};
 ghost use Rattle.format.specs.Drawing.{raster_pixels};
 ghost use Rattle.format.specs.Reading.{ReadWhole};
 
+use packed::Factor;
+
 // The raster bytes s fill the first w * h bytes with its pixels; the bytes beyond stay.
 pub fn draw_raster(s: &[u8], f: usize, black: bool, w: usize, h: usize, buf: &mut [u8])
     requires { (f ≤ 14) × (in_limits w h ≡ true) × (w * h ≤ length buf.old) × ReadWhole f w h s.now }
@@ -14,9 +16,8 @@ pub fn draw_raster(s: &[u8], f: usize, black: bool, w: usize, h: usize, buf: &mu
     if w == 0 {
         return;
     }
-    if f == 14 {
-        bits::draw_bits(s, w * h, buf);
-        return;
+    match Factor::new(f) {
+        None => bits::draw_bits(s, w * h, buf),
+        Some(f) => runs::draw_runs(s, f, black, w, h, buf),
     }
-    runs::draw_runs(s, f, black, w, h, buf);
 }

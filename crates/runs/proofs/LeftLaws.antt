@@ -8,6 +8,7 @@ use native.Mathlib.Nat.{div-mul-le_self, mul_comm}
 use native.Mathlib.Omega.{arith}
 use lib.ListN.{length, drop, replicate, length-append, length-replicate}
 use Rattle.format.specs.Refusals.{ok, ◌>>=◌}
+use Rattle.std.specs.Prelude.{Result, Ok, Err}
 use Rattle.format.specs.Numbers.{Bytes}
 use Rattle.format.specs.Packed.{nybbles}
 use Rattle.format.specs.Rasters.{Item, run, fourteen, fifteen, turned, joined, colour}
@@ -25,7 +26,7 @@ use Rattle.state.specs.declared.State.{State}
 use Rattle.state.proofs.MoveLaws.{left_small, rows_few, run_rows}
 use Rattle.items.specs.Items.{to_item}
 use Rattle.items.specs.declared.Item as C
-use Rattle.items.specs.declared.Item.TheVariants.{Run, Repeat, Fault}
+use Rattle.items.specs.declared.Item.TheVariants.{Run, Repeat}
 use Rattle.items.proofs.PlaceLaws.{item_later}
 use Rattle.refusals.specs.declared.Refusal as D
 use Rattle.runs.specs.Runs.{place_of, with_run}
@@ -210,12 +211,12 @@ module _ {s : List ℕ} {f : ℕ} {black : Bool} {w h : ℕ} {d₀ d : List ℕ}
       (subst (λ (y : State). (at < p) × LeftIn s f black w h d₀ d' p y) (sym g) a)
 
   -- The item a that the code has read.
-  module _ (a : C.Item) (is : a ≡ to_item s (item_of f st.repeat (from s at))) where
+  module _ (a : Result C.Item D.Refusal) (is : a ≡ to_item s (item_of f st.repeat (from s at))) where
     first : (i : Item) × First f w h st (from s at) t.is i
     first = first_item t.g f w h st (from s at) t.is l t.reads
 
     -- It is a run,
-    module _ (n next : ℕ) (e : a ≡ Run n next) where
+    module _ (n next : ℕ) (e : a ≡ Ok (Run n next)) where
       run_first : (u : First f w h st (from s at) t.is (run n)) × (next ≡ 2 * length s - length u.rest)
       unfolding to_item
       run_first = go first.0 first.1
@@ -243,7 +244,7 @@ module _ {s : List ℕ} {f : ℕ} {black : Bool} {w h : ℕ} {d₀ d : List ℕ}
           (left_item (run n) u.0 d' (not c) k (colour_not c) (p ∙ with_run_lem w n (colour c) st t.done t.pre d₀ d t.rows t.cols t.buffer t.inside.wide))
 
     -- or a repeat,
-    module _ (n next : ℕ) (e : a ≡ Repeat n next) where
+    module _ (n next : ℕ) (e : a ≡ Ok (Repeat n next)) where
       unsent : d ≡ (t.done ++ joined []) ++ (t.pre ++ drop (place_of w st) d₀)
       unfolding joined
       unsent = t.buffer ∙ ap (λ (x : List ℕ). x ++ (t.pre ++ drop (place_of w st) d₀)) (sym (append-nil t.done))
@@ -267,7 +268,7 @@ module _ {s : List ℕ} {f : ℕ} {black : Bool} {w h : ℕ} {d₀ d : List ℕ}
               in_code d next (2 * length s - length u.rest) st' (with_repeat 1 st) c z2 (q ∙ ap (λ (k : ℕ). coloured c (with_repeat k st)) z1) (left_item fifteen u d c refl refl unsent)
 
     -- and no fault.
-    pub left_sound : (x : D.Refusal) → a ≡ Fault x → ⊥
+    pub left_sound : (x : D.Refusal) → a ≡ Err x → ⊥
     unfolding to_item
     left_sound x e = go first.0 first.1
       where

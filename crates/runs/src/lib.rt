@@ -9,14 +9,8 @@ ghost use Rattle.state.specs.Moves.{plain};
 ghost use Rattle.runs.specs.Runs.{with_run};
 
 use items::Item;
+use packed::Factor;
 use state::State;
-
-// The pixel of a colour.
-fn pixel(black: bool) -> u8
-    ensures { result ≡ colour black }
-{
-    if black { 1 } else { 0 }
-}
 
 // A run of n pixels from the state on: its row is filled, and sent once more for each repeat, and the rest of the run follows.
 fn draw_run(buf: &mut [u8], w: usize, state: State, n: usize)
@@ -26,7 +20,7 @@ fn draw_run(buf: &mut [u8], w: usize, state: State, n: usize)
     let repeat = state.repeat;
     let at = state.row * w + state.column;
     let room = w - state.column;
-    let v = pixel(state.black);
+    let v = u8::from(state.black);
     if n < room {
         fill::fill_run(buf, at, n, v);
         return;
@@ -37,28 +31,24 @@ fn draw_run(buf: &mut [u8], w: usize, state: State, n: usize)
 }
 
 // The raster bytes s, w by h pixels of runs and repeats, fill the first w * h bytes; the bytes beyond stay.
-pub fn draw_runs(s: &[u8], f: usize, black: bool, w: usize, h: usize, buf: &mut [u8])
-    requires { (f ≤ 13) × (1 ≤ w) × (1 ≤ h) × (w * h ≤ 65536) × (w * h ≤ length buf.old) × ReadWhole f w h s.now }
-    ensures { buf.new ≡ raster_pixels f black w h s.now ++ drop (w * h) buf.old }
+pub fn draw_runs(s: &[u8], f: Factor, black: bool, w: usize, h: usize, buf: &mut [u8])
+    requires { (1 ≤ w) × (1 ≤ h) × (w * h ≤ 65536) × (w * h ≤ length buf.old) × ReadWhole f.n w h s.now }
+    ensures { buf.new ≡ raster_pixels f.n black w h s.now ++ drop (w * h) buf.old }
 {
     let mut at: usize = 0;
     let mut state = State::start(black);
     while state.row < h {
-        let repeat = state.repeat;
-        let item = items::item_at(s, at, f, repeat);
-        match item {
-            Item::Run(n, next) => {
+        match items::item_at(s, at, f, state.repeat) {
+            Ok(Item::Run(n, next)) => {
                 draw_run(buf, w, state, n);
                 state = state.past(w, n);
                 at = next;
             }
-            Item::Repeat(n, next) => {
+            Ok(Item::Repeat(n, next)) => {
                 state = state.repeated(n);
                 at = next;
             }
-            Item::Fault(_) => {
-                return;
-            }
+            Err(_) => unreachable!(),
         }
     }
 }

@@ -1,4 +1,4 @@
-// The magnitude of a signed number, and the number in fewer bits.
+// The magnitude of a signed number.
 #![tactic(auto)]
 
 ghost use Rattle.std.specs.Prelude.{◌<◌, ◌≡◌};
@@ -13,28 +13,4 @@ pub fn magnitude(z: i64) -> u64
     } else {
         z as u64
     }
-}
-
-// The number in 8 bits.
-pub fn in8(z: i64) -> i8
-    requires { mag z < 128 }
-    ensures { result ≡ z }
-{
-    z as i8
-}
-
-// The number in 16 bits.
-pub fn in16(z: i64) -> i16
-    requires { mag z < 32768 }
-    ensures { result ≡ z }
-{
-    z as i16
-}
-
-// The number in 32 bits.
-pub fn in32(z: i64) -> i32
-    requires { mag z < 2147483648 }
-    ensures { result ≡ z }
-{
-    z as i32
 }

@@ -12,7 +12,7 @@ use Rattle.format.proofs.StateLaws.{ends_col, ends_row, ends_rep}
 use Rattle.refusals.specs.Names.{coded}
 use Rattle.state.specs.Moves.{coloured, moved_to, Within}
 use Rattle.state.specs.declared.State as D
-use Rattle.state.specs.declared.Moved.TheVariants.{To, Fault}
+use Rattle.std.specs.Prelude.{Ok, Err}
 
 -- Rows that are full.
 
@@ -49,24 +49,24 @@ one_end w n s black p l u =
 
 -- A run.
 
-pub run_over : (w h n : ℕ) (s : State) (black : Bool) → pixels_left w h s < n → Fault (coded too_many) ≡ moved_to black (after_run w h n s)
+pub run_over : (w h n : ℕ) (s : State) (black : Bool) → pixels_left w h s < n → Err (coded too_many) ≡ moved_to black (after_run w h n s)
 unfolding after_run moved_to
 run_over w h n s black l = rw (lt-leb n (pixels_left w h s) l) refl
 
 pub run_fits : (w h n : ℕ) (s : State) (black : Bool) (t : D.State) → n ≤ pixels_left w h s → t ≡ coloured black (row_ends w ((s.column + n) / w) (advanced n s))
-    → To t ≡ moved_to black (after_run w h n s)
+    → Ok t ≡ moved_to black (after_run w h n s)
 unfolding after_run moved_to
-run_fits w h n s black t l e = rw (le-leb n (pixels_left w h s) l) (ap To e)
+run_fits w h n s black t l e = rw (le-leb n (pixels_left w h s) l) (ap Ok e)
 
 -- A repeat.
 
-pub repeat_over : (h n : ℕ) (s : State) (black : Bool) → h - s.row - 1 < n → Fault (coded too_many) ≡ moved_to black (after_repeat h n s)
+pub repeat_over : (h n : ℕ) (s : State) (black : Bool) → h - s.row - 1 < n → Err (coded too_many) ≡ moved_to black (after_repeat h n s)
 unfolding after_repeat moved_to
 repeat_over h n s black l = rw (lt-leb n (h - s.row - 1) l) refl
 
-pub repeat_fits : (h n : ℕ) (s : State) (black : Bool) (t : D.State) → n ≤ h - s.row - 1 → t ≡ coloured black (with_repeat n s) → To t ≡ moved_to black (after_repeat h n s)
+pub repeat_fits : (h n : ℕ) (s : State) (black : Bool) (t : D.State) → n ≤ h - s.row - 1 → t ≡ coloured black (with_repeat n s) → Ok t ≡ moved_to black (after_repeat h n s)
 unfolding after_repeat moved_to
-repeat_fits h n s black t l e = rw (le-leb n (h - s.row - 1) l) (ap To e)
+repeat_fits h n s black t l e = rw (le-leb n (h - s.row - 1) l) (ap Ok e)
 
 -- What a state within the raster gives.
 

@@ -16,13 +16,6 @@ pub struct State {
     pub black: bool,
 }
 
-// The state after a run or a repeat, or the fault that it is.
-#[derive(Clone, Copy)]
-pub enum Moved {
-    To(State),
-    Fault(Refusal),
-}
-
 impl State {
     // Before the first pixel.
     pub fn start(black: bool) -> State
@@ -45,7 +38,7 @@ impl State {
             column: self.column - q * w,
             row: self.row + self.repeat + q,
             repeat: 0,
-            black: self.black,
+            ..self
         }
     }
 
@@ -57,9 +50,8 @@ impl State {
         let column = self.column + n;
         let on = State {
             column,
-            row: self.row,
-            repeat: self.repeat,
             black: !self.black,
+            ..self
         };
         if column < w {
             return on;
@@ -74,38 +66,33 @@ impl State {
     pub fn repeated(self, n: usize) -> State
         ensures { result ≡ coloured self.black (with_repeat n (plain self)) }
     {
-        State {
-            column: self.column,
-            row: self.row,
-            repeat: n,
-            black: self.black,
-        }
+        State { repeat: n, ..self }
     }
 
     // A run of n pixels, no longer than the pixels left. Most end in their row, and need no product.
-    pub fn run(self, w: usize, h: usize, n: usize) -> Moved
+    pub fn run(self, w: usize, h: usize, n: usize) -> Result<State, Refusal>
         requires { Within w h (plain self) }
         ensures { result ≡ moved_to (not self.black) (after_run w h n (plain self)) }
     {
         let room = w - self.column;
         if n < room {
-            return Moved::To(self.past(w, n));
+            return Ok(self.past(w, n));
         }
         let left = room + (h - self.row - self.repeat - 1) * w;
         if left < n {
-            return Moved::Fault(Refusal::TOO_MANY);
+            return Err(Refusal::TooMany);
         }
-        Moved::To(self.past(w, n))
+        Ok(self.past(w, n))
     }
 
     // A repeat of n, no larger than the rows after the current one.
-    pub fn repeat(self, h: usize, n: usize) -> Moved
+    pub fn repeat(self, h: usize, n: usize) -> Result<State, Refusal>
         requires { self.row < h }
         ensures { result ≡ moved_to self.black (after_repeat h n (plain self)) }
     {
         if h - self.row - 1 < n {
-            return Moved::Fault(Refusal::TOO_MANY);
+            return Err(Refusal::TooMany);
         }
-        Moved::To(self.repeated(n))
+        Ok(self.repeated(n))
     }
 }

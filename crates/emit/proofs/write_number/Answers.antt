@@ -1,32 +1,19 @@
 use mathlib.Core.Path.{ap}
 use native.Mathlib.Omega.{arith}
 use lib.ListN.{length}
-use Rattle.format.proofs.PackedLaws.{length_one}
-use Rattle.emit.proofs.PutLaws.{number_one, first_within, two_long, number_two, number_large}
+use Rattle.emit.proofs.PutLaws.{number_one, first_within, number_two, number_large}
 use Rattle.emit.proofs.write_number.Goals as goal
-
-pub put_nybble-requires : goal.put_nybble-requires
-put_nybble-requires c = omega (arith, length_one c.args.f c.args.n (omega arith))
 
 pub returns-then-n-f : goal.returns-then-n-f
 returns-then-n-f c = number_one _ _ _ _ _ (omega arith) c.put_nybble.ensures
-
-pub put_nybble-requires-then-k-f-lt13 : goal.put_nybble-requires-then-k-f-lt13
-put_nybble-requires-then-k-f-lt13 c = omega (arith, two_long c.args.f c.args.n (omega arith) (omega arith) (omega arith))
-
-pub put_nybble-requires-then-k-f-lt13-2 : goal.put_nybble-requires-then-k-f-lt13-2
-put_nybble-requires-then-k-f-lt13-2 c = omega (arith, two_long c.args.f c.args.n (omega arith) (omega arith) (omega arith))
-
-pub overflow_add-result-then-k-f-lt13 : goal.overflow_add-result-then-k-f-lt13
-overflow_add-result-then-k-f-lt13 c = omega (arith, two_long c.args.f c.args.n (omega arith) (omega arith) (omega arith))
 
 pub returns-then-k-f-lt13 : goal.returns-then-k-f-lt13
 returns-then-k-f-lt13 c = number_two _ _ _ _ _ _ (omega arith) (first_within _ _ (omega arith) (omega arith) (omega arith)) c.put_nybble-then-k-f-lt13.ensures c.put_nybble-then-k-f-lt13-2.ensures
 
 pub write_large-requires : goal.write_large-requires
-write_large-requires c = let a = c.args in omega (arith, ap length (number_large a.f a.n _ (omega arith) (omega arith) (omega arith) c.limit_of-m.ensures))
+write_large-requires c = let a = c.args in omega (arith, ap length (number_large a.f.n a.n _ (omega arith) (omega arith) (omega arith) c.limit_of-m.ensures))
 
 pub returns : goal.returns
 returns c =
     let a = c.args in
-    rw (number_large a.f a.n _ (omega arith) (omega arith) (omega arith) c.limit_of-m.ensures) c.write_large.ensures
+    rw (number_large a.f.n a.n _ (omega arith) (omega arith) (omega arith) c.limit_of-m.ensures) c.write_large.ensures

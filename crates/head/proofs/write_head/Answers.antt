@@ -1,6 +1,4 @@
-use mathlib.Core.Path.{refl}
 use Rattle.measures.specs.Said.{said}
-use Rattle.pick.specs.declared.Picked.TheVariants.{Nothing}
 use Rattle.head.proofs.HeadLaws.{ready_short, ready_extended, ready_long, wrote_picked}
 use Rattle.head.proofs.write_head.Goals as goal
 
@@ -35,10 +33,4 @@ pub returns-in-Long : goal.returns-in-Long
 returns-in-Long c =
     let a = c.args in
     let e = wrote_picked a.f a.black (said a.m) a.n a.buf.now _ a.k _ c.in-Long.is c.write_long.ensures in
-    record { value = e.0; buf_after = e.1 }
-
-pub returns-in-Nothing : goal.returns-in-Nothing
-returns-in-Nothing c =
-    let a = c.args in
-    let e = wrote_picked a.f a.black (said a.m) a.n a.buf.now _ a.k Nothing c.in-Nothing.is (refl, refl) in
     record { value = e.0; buf_after = e.1 }

@@ -1,6 +1,5 @@
-use native.Mathlib.Omega.{arith}
 use Rattle.items.proofs.ItemLaws.{item_short}
 use Rattle.items.proofs.item_at.Goals as goal
 
-pub returns-then-short-ne0 : goal.returns-then-short-ne0
-returns-then-short-ne0 c = item_short _ _ _ _ _ _ (omega arith) (c.short_at-short.ensures.some c.if-short-ne0.true)
+pub returns-in-Some : goal.returns-in-Some
+returns-in-Some c = item_short _ _ _ _ _ c.args.f.small (c.short_at.ensures.some _ c.in-Some.is)

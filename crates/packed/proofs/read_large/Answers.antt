@@ -5,9 +5,6 @@ use Rattle.packed.proofs.read_large.Goals as goal
 pub returns-then-end-j : goal.returns-then-end-j
 returns-then-end-j c = large_none _ _ _ _ c.skip_zeros-j.ensures (omega arith)
 
-pub read_digits-requires : goal.read_digits-requires
-read_digits-requires c = omega (arith, c.skip_zeros-j.ensures.stop (omega arith))
-
 pub returns : goal.returns
 returns c =
     large_some _ _ _ _ c.skip_zeros-j.ensures _ _ _ (omega arith)

@@ -4,6 +4,5 @@ use Rattle.pick.proofs.narrow_held.Goals as goal
 
 pub returns : goal.returns
 returns c =
-    let a = c.args in
-    narrow_all a.top a.half a.m a.dm _ (search to_z-of_z) (search to_z-of_z) (search to_z-of_z) (search to_z-of_z) (search to_z-of_z) (search to_z-of_z) (search to_z-of_z) (search (to_z-of_z, c.struct_told-5-1.given))
-    c.scaled-back.ensures c.held_plain-tfm.ensures c.magnitude-w.ensures.0 c.magnitude-h.ensures.0 c.magnitude-hoff.ensures.0 c.magnitude-voff.ensures.0
+    narrow_all c.args.top c.args.half c.args.m c.args.dm _ (search to_z-of_z) (search to_z-of_z) (search to_z-of_z) (search to_z-of_z) (search to_z-of_z)
+    c.from.ensures c.eq.ensures c.eq-2.ensures c.held_plain.ensures c.from-2.ensures c.magnitude.ensures.0 c.magnitude-2.ensures.0 c.magnitude-3.ensures.0 c.magnitude-4.ensures.0

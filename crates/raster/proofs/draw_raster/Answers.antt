@@ -1,3 +1,9 @@
+use Prim.Native.Nat.{◌*◌}
+use mathlib.Core.Path.{◌≡◌, refl, sym, subst}
+use mathlib.Core.List.{◌++◌}
+use lib.ListN.{drop}
+use Rattle.format.specs.Reading.{ReadWhole}
+use Rattle.format.specs.Drawing.{raster_pixels}
 use native.Mathlib.Omega.{arith}
 use Rattle.format.proofs.FillLaws.{limited}
 use Rattle.raster.proofs.KindLaws.{no_pixels, bits_enough, bit_pixels}
@@ -10,13 +16,18 @@ returns-then-w-eq0 c = no_pixels _ _ _ _ _ _ (omega arith)
 pub draw_bits-requires : goal.draw_bits-requires
 draw_bits-requires c =
     let z = limited c.args.w c.args.h c.requires.1 (λ e. omega arith) in
-    (z.small, bits_enough c.args.f c.args.black c.args.w c.args.h c.args.s.now c.args.s.now (λ e. omega arith) (omega arith) c.requires.3, search rules)
+    let e : c.args.f ≡ 14 = omega (arith, c.in-None.ensures.none.0 refl) in
+    (z.small, bits_enough c.args.f c.args.black c.args.w c.args.h c.args.s.now c.args.s.now (λ e. omega arith) e c.requires.3, search rules)
 
-pub returns-then-f-eq14 : goal.returns-then-f-eq14
-returns-then-f-eq14 c =
-    bit_pixels _ c.args.black _ _ _ _ _ (λ e. omega arith) (omega arith) c.requires.3 c.draw_bits.ensures
+pub returns-in-None : goal.returns-in-None
+returns-in-None c =
+    bit_pixels _ c.args.black _ _ _ _ _ (λ e. omega arith) (omega (arith, c.in-None.ensures.none.0 refl)) c.requires.3 c.draw_bits.ensures
 
 pub draw_runs-requires : goal.draw_runs-requires
 draw_runs-requires c =
     let z = limited c.args.w c.args.h c.requires.1 (λ e. omega arith) in
-    (omega arith, omega arith, z.high, z.small, search rules, c.requires.3)
+    (omega arith, z.high, z.small, search rules, subst (λ f. ReadWhole f c.args.w c.args.h c.args.s.now) (sym c.in-Some.ensures.some) c.requires.3)
+
+pub returns-in-Some : goal.returns-in-Some
+returns-in-Some c =
+    subst (λ f. c.draw_runs.new.buf ≡ raster_pixels f c.args.black c.args.w c.args.h c.args.s.now ++ drop (c.args.w * c.args.h) c.args.buf.now) c.in-Some.ensures.some c.draw_runs.ensures

@@ -1,3 +1,5 @@
+use mathlib.Core.Path.{ap, ◌∙◌}
+use Rattle.std.specs.Prelude.{Ok}
 use native.Mathlib.Omega.{arith}
 use borrow.Author.Rules.{rules}
 use Rattle.format.proofs.FieldLaws.{bytes_of_lem}
@@ -12,45 +14,39 @@ loop-state-init c =
 pub draw_run-requires : goal.draw_run-requires
 draw_run-requires c =
     let l = c.loop-state.invariant in
-    let k = run_fits l (omega arith) (omega arith) (omega arith) _ c.item_at-item.ensures _ _ c.in-Run.is in
+    let k = run_fits l (omega arith) (omega arith) (omega arith) _ c.item_at.ensures _ _ (c.in-Ok-Run.is ∙ ap Ok c.in-Ok-Run.field-0-is) in
     (l.inside.wide, omega (arith, k.0, l.long))
 
 pub past-state-requires : goal.past-state-requires
 past-state-requires c =
     let l = c.loop-state.invariant in
-    let k = run_fits l (omega arith) (omega arith) (omega arith) _ c.item_at-item.ensures _ _ c.in-Run.is in
+    let k = run_fits l (omega arith) (omega arith) (omega arith) _ c.item_at.ensures _ _ (c.in-Ok-Run.is ∙ ap Ok c.in-Ok-Run.field-0-is) in
     (omega arith, omega (arith, k.0), k.1)
 
-pub loop-state-smaller-in-Run : goal.loop-state-smaller-in-Run
-loop-state-smaller-in-Run c =
+pub loop-state-smaller-in-Ok-Run : goal.loop-state-smaller-in-Ok-Run
+loop-state-smaller-in-Ok-Run c =
     let l = c.loop-state.invariant in
-    let t = left_run l (omega arith) (omega arith) (omega arith) _ c.item_at-item.ensures _ _ c.in-Run.is _ _ c.draw_run.ensures (search rules) c.past-state.ensures in
+    let t = left_run l (omega arith) (omega arith) (omega arith) _ c.item_at.ensures _ _ (c.in-Ok-Run.is ∙ ap Ok c.in-Ok-Run.field-0-is) _ _ c.draw_run.ensures (search rules) c.past-state.ensures in
     omega (arith, t.0, t.1.low)
 
-pub loop-state-preserved-in-Run : goal.loop-state-preserved-in-Run
-loop-state-preserved-in-Run c =
+pub loop-state-preserved-in-Ok-Run : goal.loop-state-preserved-in-Ok-Run
+loop-state-preserved-in-Ok-Run c =
     let l = c.loop-state.invariant in
-    (left_run l (omega arith) (omega arith) (omega arith) _ c.item_at-item.ensures _ _ c.in-Run.is _ _ c.draw_run.ensures (search rules) c.past-state.ensures).1
+    (left_run l (omega arith) (omega arith) (omega arith) _ c.item_at.ensures _ _ (c.in-Ok-Run.is ∙ ap Ok c.in-Ok-Run.field-0-is) _ _ c.draw_run.ensures (search rules) c.past-state.ensures).1
 
 pub loop-state-smaller : goal.loop-state-smaller
 loop-state-smaller c =
     let l = c.loop-state.invariant in
-    let t = left_repeat l (omega arith) (omega arith) (omega arith) _ c.item_at-item.ensures _ _ c.in-Repeat.is _ c.repeated-state.ensures in
+    let t = left_repeat l (omega arith) (omega arith) (omega arith) _ c.item_at.ensures _ _ (c.in-Ok-Repeat.is ∙ ap Ok c.in-Ok-Repeat.field-0-is) _ c.repeated-state.ensures in
     omega (arith, t.0, t.1.low)
 
 pub loop-state-preserved : goal.loop-state-preserved
 loop-state-preserved c =
     let l = c.loop-state.invariant in
-    (left_repeat l (omega arith) (omega arith) (omega arith) _ c.item_at-item.ensures _ _ c.in-Repeat.is _ c.repeated-state.ensures).1
+    (left_repeat l (omega arith) (omega arith) (omega arith) _ c.item_at.ensures _ _ (c.in-Ok-Repeat.is ∙ ap Ok c.in-Ok-Repeat.field-0-is) _ c.repeated-state.ensures).1
 
-pub shape_of-buf-in-Fault : goal.shape_of-buf-in-Fault
-shape_of-buf-in-Fault c = c.loop-state.invariant.long
-
-pub returns-in-Fault : goal.returns-in-Fault
-returns-in-Fault c = absurd (left_sound c.loop-state.invariant (omega arith) (omega arith) (omega arith) _ c.item_at-item.ensures _ c.in-Fault.is)
-
-pub shape_of-buf : goal.shape_of-buf
-shape_of-buf c = c.loop-state.invariant.long
+pub unreachable-requires : goal.unreachable-requires
+unreachable-requires c = left_sound c.loop-state.invariant (omega arith) (omega arith) (omega arith) _ c.item_at.ensures _ c.in-Err.is
 
 pub returns : goal.returns
 returns c = left_end c.loop-state.invariant (omega arith)
