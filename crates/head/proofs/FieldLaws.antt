@@ -2,7 +2,7 @@
 use Prim.Native.Nat.{ℕ, zero, suc, ◌+◌, ◌-◌, ◌/◌, ◌%◌, ◌^◌, ◌≤◌, ◌<◌}
 use mathlib.Core.Path.{◌≡◌, refl, sym, ap, subst, ◌∙◌}
 use mathlib.Core.List.{List, [], ◌∷◌, ◌++◌}
-use native.Mathlib.Nat.{one-le-pow, add-zero}
+use native.Mathlib.Nat.{add-zero}
 use native.Mathlib.Numerals.{add-one}
 use native.Mathlib.Omega.{arith}
 use Rattle.std.proofs.Common.{append_assoc}
@@ -15,9 +15,6 @@ use Rattle.format.specs.Numbers.{bytes}
 use Rattle.format.proofs.FieldLaws.{length-bytes}
 use Rattle.head.specs.declared.Field.{Field}
 use Rattle.head.specs.Head.{numbers, total, Fit, narrow_row}
-
-pow_pos : (k : ℕ) → 0 < 256 ^ k
-pow_pos k = one-le-pow k 256 (omega arith)
 
 -- One number.
 

@@ -56,6 +56,7 @@ fn put_head(buf: &mut [u8], flag: u64, fields: [Field; 9]) -> usize
 }
 
 // The same for a short packet, which nearly every one is: its bytes at once.
+// Kept: nine numbers and not the fields, since this form knows their widths.
 fn put_short(
     buf: &mut [u8],
     flag: u64,
