@@ -23,7 +23,7 @@ use Rattle.format.proofs.PieceLaws.{box_true}
 use Rattle.format.proofs.FillLaws.{limits_small}
 use Rattle.format.proofs.PackTheorems.{chosen_most, chosen_none}
 use Rattle.format.proofs.FormLaws.{values_for, values_for_lem, first_length, none_length}
-use Rattle.std.specs.Prelude.{Ok, Err, Some, None}
+use Rattle.std.specs.Prelude.{Ok, Err}
 use Rattle.refusals.specs.Answers.{refused_at, numbers}
 use Rattle.refusals.proofs.NameLaws.{number_coded}
 use Rattle.size.specs.Sizes.{IsChosen}

@@ -21,7 +21,13 @@ use refusals::{Refusal, Refused};
 fn within_limits(w: i64, h: i64) -> bool
     ensures { result ≡ within_limits w h }
 {
-    0 <= w && 0 <= h && packet::in_limits(sign::magnitude(w), sign::magnitude(h))
+    if w < 0 {
+        return false;
+    }
+    if h < 0 {
+        return false;
+    }
+    packet::in_limits(sign::magnitude(w), sign::magnitude(h))
 }
 
 // Each byte is 0 or 1: the largest is. It does not leave early, so that many bytes are taken side by side.
@@ -39,7 +45,10 @@ fn all_pixels(b: &[u8]) -> bool
 fn is_code(code: i64) -> bool
     ensures { result ≡ is_code code }
 {
-    0 <= code && code < 256
+    if code < 0 {
+        return false;
+    }
+    sign::magnitude(code) < 256
 }
 
 // The first run is black; for f = 14 the bit is 0.
@@ -70,13 +79,7 @@ fn write_raster(
 }
 
 // A bitmap of w by h pixels with a code that 01 allows: 20, then 17, or the packet.
-fn pack_judged(
-    b: &[u8],
-    w: usize,
-    h: usize,
-    m: Measures,
-    buf: &mut [u8],
-) -> Result<usize, Refused>
+fn pack_judged(b: &[u8], w: usize, h: usize, m: Measures, buf: &mut [u8]) -> Result<usize, Refused>
     requires { Bitmap b.now w h (said m) }
     ensures result_value { in_numbers result ≡ told (pack_answer b.now (said m) buf.old) }
     ensures buf_after { buf.new ≡ pack_buffer b.now (said m) buf.old }
@@ -106,8 +109,8 @@ pub fn pack(bitmap: &[u8], m: Measures, packet: &mut [u8]) -> Result<usize, Refu
     if !within_limits(m.w, m.h) {
         return Err(Refusal::BitmapOutsideLimits.at(0));
     }
-    let w = m.w as usize;
-    let h = m.h as usize;
+    let w = sign::magnitude(m.w) as usize;
+    let h = sign::magnitude(m.h) as usize;
     if bitmap.len() != w * h {
         return Err(Refusal::BadBitmap.at(0));
     }

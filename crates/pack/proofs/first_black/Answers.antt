@@ -1,12 +1,13 @@
+use Rattle.format.specs.Choice.{first_black}
+use Rattle.std.proofs.lemmas.Grind.{common_steps}
+use borrow.Author.Tests.{tests}
 use native.Mathlib.Omega.{arith}
-use Rattle.pack.proofs.TestLaws.{bits_white, none_white, first_pixel}
 use Rattle.pack.proofs.first_black.Goals as goal
 
-pub returns-then-f-eq14 : goal.returns-then-f-eq14
-returns-then-f-eq14 c = bits_white _ _ (omega arith)
+pub returns-then-f-ne14 : goal.returns-then-f-ne14
+unfolding first_black
+returns-then-f-ne14 c = grind (arith, common_steps, tests)
 
-pub returns-then-b-eq0 : goal.returns-then-b-eq0
-returns-then-b-eq0 c = none_white _ _ (λ e. omega arith) (omega arith)
-
-pub returns : goal.returns
-returns c = first_pixel _ _ (λ e. omega arith)
+pub returns-else-f-ne14 : goal.returns-else-f-ne14
+unfolding first_black
+returns-else-f-ne14 c = grind (arith, common_steps, tests)

@@ -1,16 +1,20 @@
-use mathlib.Core.Path.{ap}
+use mathlib.Core.Path.{refl, ap, sym, ◌∙◌}
+use Prim.Native.Nat.{ℕ}
 use native.Mathlib.Omega.{arith}
 use lib.ListN.{length}
+use Rattle.pack.specs.Bitmaps.{raster_for}
 use Rattle.pack.proofs.TestLaws.{raster_bits, raster_runs, bits_long, some_wide}
 use Rattle.pack.proofs.write_raster.Goals as goal
 
 pub write_bits-requires : goal.write_bits-requires
 write_bits-requires c =
+    let l = c.in-None.ensures.none.0 refl in
     let n = bits_long c.args.f c.args.w c.args.h c.args.b.now (omega arith) in
     (c.requires.4, c.requires.3, omega (arith, n, c.requires.6))
 
-pub returns-then-f-eq14 : goal.returns-then-f-eq14
-returns-then-f-eq14 c =
+pub returns-in-None : goal.returns-in-None
+returns-in-None c =
+    let l = c.in-None.ensures.none.0 refl in
     let e = raster_bits c.args.f c.args.w c.args.h c.args.b.now (omega arith) in
     let n = bits_long c.args.f c.args.w c.args.h c.args.b.now (omega arith) in
     let w = c.write_bits in
@@ -18,11 +22,15 @@ returns-then-f-eq14 c =
 
 pub write_runs-requires : goal.write_runs-requires
 write_runs-requires c =
-    let e = raster_runs c.args.f c.args.w c.args.h c.args.b.now (λ e. omega arith) in
-    (some_wide _ _ c.requires.1 (λ e. omega arith), c.requires.2, c.requires.3, omega arith, c.requires.5, omega (arith, ap length e, c.requires.6))
+    let a = c.args in
+    let f = c.in-Some.f in
+    let e = ap (λ (k : ℕ). raster_for k a.w a.h a.b.now) (sym c.in-Some.ensures.some) ∙ raster_runs f.n a.w a.h a.b.now (λ e. omega (arith, f.small)) in
+    (some_wide _ _ c.requires.1 (λ e. omega (arith, f.small, c.in-Some.ensures.some)), c.requires.2, c.requires.3, c.requires.5, omega (arith, ap length e, c.requires.6))
 
-pub returns : goal.returns
-returns c =
-    let e = raster_runs c.args.f c.args.w c.args.h c.args.b.now (λ e. omega arith) in
+pub returns-in-Some : goal.returns-in-Some
+returns-in-Some c =
+    let a = c.args in
+    let f = c.in-Some.f in
+    let e = ap (λ (k : ℕ). raster_for k a.w a.h a.b.now) (sym c.in-Some.ensures.some) ∙ raster_runs f.n a.w a.h a.b.now (λ e. omega (arith, f.small)) in
     let w = c.write_runs in
     record { value = rw e w.ensures.value; buf_after = rw e w.ensures.buf_after }
