@@ -48,6 +48,15 @@ pub struct Cases<'a, F> {
     pub head: F,
 }
 
+impl<'a, F> Cases<'a, F> {
+    // All cases of a slice.
+    pub fn new(s: &'a [u8], head: F) -> Cases<'a, F>
+        ensures { (result.s.now ≡ s.now) × (result.at ≡ 0) × (result.head ≡ head) }
+    {
+        Cases { s, at: 0, head }
+    }
+}
+
 impl<'a, F: Fn(u8) -> usize + Drop> Iterator for Cases<'a, F> {
     type Item = Result<Case<'a>, CutOff>;
 

@@ -17,11 +17,7 @@ fn print_line<W: Write>(out: &mut W, checked: Result<usize, Refused>) -> io::Res
 
 // Each font of the cases.
 fn check_each<W: Write>(out: &mut W, s: &[u8]) -> io::Result<()> {
-    for case in (Cases {
-        s,
-        at: 0,
-        head: |_| 4,
-    }) {
+    for case in Cases::new(s, |_| 4) {
         let Ok(Case { bytes, .. }) = case else {
             return lines::print_bad(out);
         };

@@ -76,11 +76,7 @@ fn draw_case<W: Write>(out: &mut W, case: Case) -> io::Result<()> {
 
 // Each case.
 fn draw_each<W: Write>(out: &mut W, s: &[u8]) -> io::Result<()> {
-    for case in (Cases {
-        s,
-        at: 0,
-        head: |_| 16,
-    }) {
+    for case in Cases::new(s, |_| 16) {
         let Ok(case) = case else {
             return lines::print_bad(out);
         };

@@ -2,7 +2,7 @@
 use Prim.Native.Nat.{ℕ, zero, suc, ◌+◌, ◌-◌, ◌/◌, ◌%◌, ◌^◌, ◌≤◌, ◌<◌}
 use mathlib.Core.Path.{◌≡◌, refl, sym, ap, subst, ◌∙◌}
 use mathlib.Core.List.{List, [], ◌∷◌, ◌++◌}
-use native.Mathlib.Nat.{one-le-pow, add-zero}
+use native.Mathlib.Nat.{add-zero}
 use native.Mathlib.Numerals.{add-one}
 use native.Mathlib.Omega.{arith}
 use Rattle.std.proofs.Common.{append_assoc}
@@ -13,10 +13,8 @@ use mir.Syntax.{w64}
 use Rattle.std.specs.Int.{to_be_bytes}
 use Rattle.format.specs.Numbers.{bytes}
 use Rattle.format.proofs.FieldLaws.{length-bytes}
-use Rattle.head.specs.Head.{numbers, total, Fit, narrow_widths}
-
-pow_pos : (k : ℕ) → 0 < 256 ^ k
-pow_pos k = one-le-pow k 256 (omega arith)
+use Rattle.head.specs.declared.Field.{Field}
+use Rattle.head.specs.Head.{numbers, total, Fit, narrow_row}
 
 -- One number.
 
@@ -66,86 +64,67 @@ sets-append (x ∷ a) b l i =
     let e : i + suc (length a) ≡ suc i + length a = omega arith in
     rw e (sets-append a b (set l i x) (suc i))
 
-length-numbers : (ks vs : List ℕ) → Fit ks vs → length (numbers ks vs) ≡ total ks
+length-numbers : (xs : List Field) → length (numbers xs) ≡ total xs
 unfolding numbers
-length-numbers [] [] h = refl
-length-numbers [] (v ∷ vs) h = absurd h
-length-numbers (k ∷ ks) [] h = absurd h
-length-numbers (k ∷ ks) (v ∷ vs) h = rw (length-append, length-bytes, length-numbers ks vs h.2)
+length-numbers [] = refl
+length-numbers (x ∷ xs) = rw (length-append, length-bytes, length-numbers xs) refl
 
 -- The fields from the i-th on are what is left.
-pub record Rest (l : List ℕ) (at : ℕ) (ks vs d : List ℕ) (i to : ℕ) : Type 0 where
-  pub inside : i ≤ 9
-  pub widths : length ks ≡ 9
-  pub values : length vs ≡ 9
-  pub fit : Fit (drop i ks) (drop i vs)
-  pub place : to + total (drop i ks) ≡ at + total ks
-  pub room : at + total ks ≤ length l
+pub record Rest (l : List ℕ) (at : ℕ) (xs : List Field) (d : List ℕ) (i to : ℕ) : Type 0 where
+  pub fit : Fit (drop i xs)
+  pub place : to + total (drop i xs) ≡ at + total xs
+  pub room : at + total xs ≤ length l
   pub same : length d ≡ length l
-  pub is : sets l at (numbers ks vs) ≡ sets d to (numbers (drop i ks) (drop i vs))
+  pub is : sets l at (numbers xs) ≡ sets d to (numbers (drop i xs))
 
-pub rest_start : (l : List ℕ) (at : ℕ) (ks vs : List ℕ) → length ks ≡ 9 → length vs ≡ 9 → Fit ks vs → at + total ks ≤ length l → Rest l at ks vs l 0 at
-rest_start l at ks vs p q f r = record { inside = omega arith; widths = p; values = q; fit = f; place = refl; room = r; same = refl; is = refl }
+pub rest_start : (l : List ℕ) (at : ℕ) (xs : List Field) → Fit xs → at + total xs ≤ length l → Rest l at xs l 0 at
+rest_start l at xs f r = record { fit = f; place = refl; room = r; same = refl; is = refl }
 
 -- The next field.
-record Next (l : List ℕ) (at : ℕ) (ks vs d : List ℕ) (i to : ℕ) : Type 0 where
-  width : get_or ks i 0 ≤ 4
-  small : get_or vs i 0 < 256 ^ get_or ks i 0
-  fit : Fit (drop (suc i) ks) (drop (suc i) vs)
-  place : to + get_or ks i 0 + total (drop (suc i) ks) ≡ at + total ks
-  is : sets l at (numbers ks vs) ≡ sets (sets d to (bytes (get_or ks i 0) (get_or vs i 0))) (to + get_or ks i 0) (numbers (drop (suc i) ks) (drop (suc i) vs))
+module _ {l : List ℕ} {at : ℕ} {xs : List Field} {d : List ℕ} {i to : ℕ} (z : Field) (a : Rest l at xs d i to) (h : i < length xs) where
+  abbrev x : Field
+  x = get_or xs i z
 
-next : {l : List ℕ} {at : ℕ} {ks vs d : List ℕ} {i to : ℕ} → Rest l at ks vs d i to → i < 9 → Next l at ks vs d i to
+  split : drop i xs ≡ x ∷ drop (suc i) xs
+  split = drop-cons xs i z h
+
+  fits : Fit (x ∷ drop (suc i) xs)
+  fits = subst (λ (y : List Field). Fit y) split a.fit
+
+  behind : to + x.width + total (drop (suc i) xs) ≡ at + total xs
+  behind = omega (arith, a.place, ap total split)
+
+  pub rest_asks : (to + x.width ≤ length d) × (x.width ≤ 4) × (x.value < 256 ^ x.width)
+  rest_asks = (omega (arith, behind, a.room, a.same), fits.0, fits.1)
+
+  pub rest_more : {e : List ℕ} {r : ℕ} → (r ≡ to + x.width) × (e ≡ sets d to (bytes x.width x.value)) → Rest l at xs e (i + 1) r
+  unfolding numbers
+  rest_more {e} {r} g =
+      let s : i + 1 ≡ suc i = add-one i in
+      let b = bytes x.width x.value in
+      let t = numbers (drop (suc i) xs) in
+      record {
+        fit = rw s fits.2;
+        place = rw s (omega (arith, behind, g.0));
+        room = a.room;
+        same = ap length g.1 ∙ simp length-sets a.same;
+        is = a.is ∙ ap (λ (y : List Field). sets d to (numbers y)) split ∙ sym (sets-append b t d to) ∙ ap (λ (n : ℕ). sets (sets d to b) (to + n) t) (length-bytes x.width x.value)
+            ∙ rw (s, g.0, g.1) refl;
+      }
+
+pub rest_end : {l : List ℕ} {at : ℕ} {xs : List Field} {d : List ℕ} {i to : ℕ} → Rest l at xs d i to → length xs ≤ i → (to ≡ at + total xs) × (d ≡ sets l at (numbers xs))
 unfolding numbers
-next {l} {at} {ks} {vs} {d} {i} {to} a h =
-    let p : drop i ks ≡ get_or ks i 0 ∷ drop (suc i) ks = drop-cons ks i 0 (omega (arith, a.widths)) in
-    let q : drop i vs ≡ get_or vs i 0 ∷ drop (suc i) vs = drop-cons vs i 0 (omega (arith, a.values)) in
-    let f : Fit (get_or ks i 0 ∷ drop (suc i) ks) (get_or vs i 0 ∷ drop (suc i) vs) =
-    subst (λ (x : List ℕ). Fit x (get_or vs i 0 ∷ drop (suc i) vs)) p (subst (λ (x : List ℕ). Fit (drop i ks) x) q a.fit) in
-    let b = bytes (get_or ks i 0) (get_or vs i 0) in
-    let t = numbers (drop (suc i) ks) (drop (suc i) vs) in
-    let n : length b ≡ get_or ks i 0 = length-bytes (get_or ks i 0) (get_or vs i 0) in
-    record {
-      width = f.0;
-      small = f.1;
-      fit = f.2;
-      place = omega (arith, a.place, ap total p);
-      is = a.is ∙ ap (λ (x : List ℕ). sets d to (numbers x (drop i vs))) p ∙ ap (λ (x : List ℕ). sets d to (numbers (get_or ks i 0 ∷ drop (suc i) ks) x)) q
-          ∙ sym (sets-append b t d to) ∙ ap (λ (x : ℕ). sets (sets d to b) (to + x) t) n;
-    }
-
-pub rest_asks : {l : List ℕ} {at : ℕ} {ks vs d : List ℕ} {i to : ℕ} → Rest l at ks vs d i to → i < 9 → (to + get_or ks i 0 ≤ length d) × (get_or ks i 0 ≤ 4) × (get_or vs i 0 < 256 ^ get_or ks i 0)
-rest_asks a h = let x = next a h in (omega (arith, x.place, a.room, a.same), x.width, x.small)
-
-pub rest_more : {l : List ℕ} {at : ℕ} {ks vs d e : List ℕ} {i to r : ℕ} → Rest l at ks vs d i to → i < 9 → (r ≡ to + get_or ks i 0) × (e ≡ sets d to (bytes (get_or ks i 0) (get_or vs i 0))) → Rest l at ks vs e (i + 1) r
-rest_more {d = d} {i = i} {to = to} a h g =
-    let x = next a h in
-    let s : i + 1 ≡ suc i = add-one i in
-    record {
-      inside = omega arith;
-      widths = a.widths;
-      values = a.values;
-      fit = rw s x.fit;
-      place = rw s (omega (arith, x.place, g.0));
-      room = a.room;
-      same = ap length g.1 ∙ simp length-sets a.same;
-      is = rw (s, g.0, g.1) x.is;
-    }
-
-pub rest_end : {l : List ℕ} {at : ℕ} {ks vs d : List ℕ} {i to : ℕ} → Rest l at ks vs d i to → 9 ≤ i → (to ≡ at + total ks) × (d ≡ sets l at (numbers ks vs))
-unfolding numbers
-rest_end {ks = ks} {vs = vs} {i = i} a h =
-    let n : i ≡ 9 = omega (arith, a.inside) in
-    let p : drop i ks ≡ [] = drop_of_length-le ks {i = i} (omega (arith, a.widths)) in
+rest_end {xs = xs} {i = i} a h =
+    let p : drop i xs ≡ [] = drop_of_length-le xs {i = i} h in
     (omega (arith, a.place, ap total p), sym (a.is ∙ rw p refl))
 
 -- The flag and the fields stand at the buffer's start.
-pub head_put : (l d : List ℕ) (flag : ℕ) (ks vs : List ℕ) {r : ℕ} → 1 + total ks ≤ length l → Fit ks vs → (r ≡ 1 + total ks) × (d ≡ sets (set l 0 flag) 1 (numbers ks vs))
-    → (r ≡ 1 + total ks) × (d ≡ (flag ∷ numbers ks vs) ++ drop (1 + total ks) l)
-head_put l d flag ks vs h f g =
-    let n : length (numbers ks vs) ≡ total ks = length-numbers ks vs f in
-    let e : 0 + suc (length (numbers ks vs)) ≡ 1 + total ks = omega arith in
-    (g.0, g.1 ∙ sets-eq (flag ∷ numbers ks vs) l 0 (omega arith) ∙ ap (λ (x : ℕ). (flag ∷ numbers ks vs) ++ drop x l) e)
+pub head_put : (l d : List ℕ) (flag : ℕ) (xs : List Field) {r : ℕ} → 1 + total xs ≤ length l → (r ≡ 1 + total xs) × (d ≡ sets (set l 0 flag) 1 (numbers xs))
+    → (r ≡ 1 + total xs) × (d ≡ (flag ∷ numbers xs) ++ drop (1 + total xs) l)
+head_put l d flag xs h g =
+    let n : length (numbers xs) ≡ total xs = length-numbers xs in
+    let e : 0 + suc (length (numbers xs)) ≡ 1 + total xs = omega arith in
+    (g.0, g.1 ∙ sets-eq (flag ∷ numbers xs) l 0 (omega arith) ∙ ap (λ (x : ℕ). (flag ∷ numbers xs) ++ drop x l) e)
 
 -- The short form.
 
@@ -165,7 +144,7 @@ bytes_three n = let e : n % 65536 % 256 / 1 ≡ n % 256 = omega arith in ap (λ 
 -- Its flag and fields are those bytes.
 pub short_put : (l : List ℕ) (flag n code tfm dm w h x y : ℕ) {d : List ℕ}
     → d ≡ flag ∷ n ∷ code ∷ tfm / 65536 ∷ tfm % 65536 / 256 ∷ tfm % 256 ∷ dm ∷ w ∷ h ∷ x ∷ y ∷ []
-    → d ++ drop 11 l ≡ (flag ∷ numbers (narrow_widths 1) (n ∷ code ∷ tfm ∷ dm ∷ 0 ∷ w ∷ h ∷ x ∷ y ∷ [])) ++ drop 11 l
+    → d ++ drop 11 l ≡ (flag ∷ numbers (narrow_row 1 n code tfm dm w h x y)) ++ drop 11 l
 unfolding numbers
 short_put l flag n code tfm dm w h x y e =
     rw e (sym (rw (bytes_none 0, bytes_three tfm, byte_one n, byte_one code, byte_one dm, byte_one w, byte_one h, byte_one x, byte_one y) refl))

@@ -26,7 +26,8 @@ use Rattle.pick.specs.declared.Picked.{Picked}
 use Rattle.pick.specs.declared.Picked.TheVariants.{Short, Extended, Long}
 use Rattle.pick.proofs.PickLaws.{Small, small, short_is, extended_is, long_is, narrow_offsets, long_offsets}
 use Rattle.sign.proofs.SignLaws.{in_bits_lem}
-use Rattle.head.specs.Head.{head_of, head_for, head_length, numbers, total, Fit, narrow_widths, narrow_values, long_values, ScaledBelow, Ready}
+use Rattle.head.specs.declared.Field.{Field}
+use Rattle.head.specs.Head.{head_of, head_for, head_length, numbers, total, Fit, narrow_values, long_values, ScaledBelow, Ready}
 
 -- The head of a packet before n raster bytes.
 
@@ -100,7 +101,7 @@ narrow_held k m dm n h0 =
       voff = (and_true (held (signed k) m.voff) _ h7.1).0;
     }
 
-narrow_fit : (k : ℕ) (m : F.Measures) (dm n : ℕ) → k ≤ 4 → n < 256 ^ k → Small m → Narrow k m dm → Fit (narrow_widths k) (narrow_values k m (F.pixels dm) n)
+narrow_fit : (k : ℕ) (m : F.Measures) (dm n : ℕ) → k ≤ 4 → n < 256 ^ k → Small m → Narrow k m dm → Fit (narrow_values k m (F.pixels dm) n)
 narrow_fit k m dm n l e s x = (
   l,
   e,
@@ -123,7 +124,7 @@ narrow_fit k m dm n l e s x = (
   ),
 )
 
-narrow_bytes : (k : ℕ) (m : F.Measures) (dm n : ℕ) → Small m → Narrow k m dm → field_bytes (narrow_kinds k) (narrow_fields k m dm n) ≡ numbers (narrow_widths k) (narrow_values k m (F.pixels dm) n)
+narrow_bytes : (k : ℕ) (m : F.Measures) (dm n : ℕ) → Small m → Narrow k m dm → field_bytes (narrow_kinds k) (narrow_fields k m dm n) ≡ numbers (narrow_values k m (F.pixels dm) n)
 unfolding numbers field_bytes twos bytes
 narrow_bytes k m dm n s x =
     let t : twos 3 m.tfm ≡ mag m.tfm = ap (twos 3) x.above in
@@ -133,8 +134,8 @@ narrow_bytes k m dm n s x =
 pub record NarrowOk (k n : ℕ) (m : F.Measures) (dm : ℕ) : Type 0 where
   pub right : mag m.hoff < 256 ^ k
   pub down : mag m.voff < 256 ^ k
-  pub fit : Fit (narrow_widths k) (narrow_values k m (F.pixels dm) n)
-  pub is : field_bytes (narrow_kinds k) (narrow_fields k m dm n) ≡ numbers (narrow_widths k) (narrow_values k m (F.pixels dm) n)
+  pub fit : Fit (narrow_values k m (F.pixels dm) n)
+  pub is : field_bytes (narrow_kinds k) (narrow_fields k m dm n) ≡ numbers (narrow_values k m (F.pixels dm) n)
 
 narrow_ok : (k : ℕ) (m : F.Measures) (dm n : ℕ) → k ≤ 4 → n < 256 ^ k → Judged m → all_held (narrow_kinds k) (narrow_fields k m dm n) ≡ true → NarrowOk k n m dm
 narrow_ok k m dm n l e j h =
@@ -170,10 +171,6 @@ short_flag l f n m r = let x = (fields_held m n short r.held).0 in omega arith
 
 -- The long form.
 
--- Its widths.
-abbrev pub long_widths : List ℕ
-long_widths = 4 ∷ 4 ∷ 4 ∷ 4 ∷ 4 ∷ 4 ∷ 4 ∷ 4 ∷ 4 ∷ []
-
 -- The same for the long form.
 pub record LongOk (n : ℕ) (m : F.Measures) : Type 0 where
   pub tfm : mag m.tfm < 4294967296
@@ -181,8 +178,8 @@ pub record LongOk (n : ℕ) (m : F.Measures) : Type 0 where
   pub dy : ScaledBelow 4294967296 m.dy
   pub right : mag m.hoff < 4294967296
   pub down : mag m.voff < 4294967296
-  pub fit : Fit long_widths (long_values m (28 + n))
-  pub is : field_bytes (kinds long) (values_for m n long) ≡ numbers long_widths (long_values m (28 + n))
+  pub fit : Fit (long_values m (28 + n))
+  pub is : field_bytes (kinds long) (values_for m n long) ≡ numbers (long_values m (28 + n))
 
 four : (z : ℤ) → held (signed 4) z ≡ true → (mag z < 4294967296) × (twos 4 z < 4294967296)
 four z h = (signed_held 4 z h, (value_twos (signed 4) z h).1)
@@ -226,36 +223,32 @@ long_ok l f n m r =
 -- What was written.
 
 -- The flag and the numbers are the head, if the numbers' bytes are the fields'.
-wrote : (f : ℕ) (black : Bool) (m : F.Measures) (n : ℕ) (k : Form) (ks vs l d : List ℕ) {r b : ℕ} → field_bytes (kinds k) (values_for m n k) ≡ numbers ks vs
+wrote : (f : ℕ) (black : Bool) (m : F.Measures) (n : ℕ) (k : Form) (xs : List Field) (l d : List ℕ) {r b : ℕ} → field_bytes (kinds k) (values_for m n k) ≡ numbers xs
     → b ≡ 16 * f + black_bit black + form_bits k (fixed k + n)
-    → (r ≡ 1 + total ks) × (d ≡ (b ∷ numbers ks vs) ++ drop (1 + total ks) l)
-    → (r ≡ 1 + total ks) × (d ≡ head_of (in_form f black m (replicate n 0) k) ++ drop (1 + total ks) l)
-wrote f black m n k ks vs l d {b = b} e q g =
-    let p : b ∷ numbers ks vs ≡ head_of (in_form f black m (replicate n 0) k) = rw (q, ← e) (sym (head_of_lem f black m n k)) in
-    (g.0, g.1 ∙ ap (λ (x : List ℕ). x ++ drop (1 + total ks) l) p)
+    → (r ≡ 1 + total xs) × (d ≡ (b ∷ numbers xs) ++ drop (1 + total xs) l)
+    → (r ≡ 1 + total xs) × (d ≡ head_of (in_form f black m (replicate n 0) k) ++ drop (1 + total xs) l)
+wrote f black m n k xs l d {b = b} e q g =
+    let p : b ∷ numbers xs ≡ head_of (in_form f black m (replicate n 0) k) = rw (q, ← e) (sym (head_of_lem f black m n k)) in
+    (g.0, g.1 ∙ ap (λ (x : List ℕ). x ++ drop (1 + total xs) l) p)
 
-module _ (f : ℕ) (black : Bool) (n : ℕ) (m : F.Measures) (l d : List ℕ) {vs : List ℕ} {r b : ℕ} where
-  pub wrote_short : (dm : ℕ) → F.pixels dm ≡ F.whole_pixels m.dx → Ready l f m n short → vs ≡ narrow_values 1 m (F.pixels dm) ((8 + n) % 256)
-      → b ≡ 16 * f + black_bit black + (8 + n) / 256
-      → (r ≡ 11) × (d ≡ (b ∷ numbers (narrow_widths 1) vs) ++ drop 11 l)
+module _ (f : ℕ) (black : Bool) (n : ℕ) (m : F.Measures) (l d : List ℕ) {r b : ℕ} where
+  pub wrote_short : (dm : ℕ) → F.pixels dm ≡ F.whole_pixels m.dx → Ready l f m n short → b ≡ 16 * f + black_bit black + (8 + n) / 256
+      → (r ≡ 11) × (d ≡ (b ∷ numbers (narrow_values 1 m (F.pixels dm) ((8 + n) % 256))) ++ drop 11 l)
       → (r ≡ 11) × (d ≡ head_of (in_form f black m (replicate n 0) short) ++ drop 11 l)
-  wrote_short dm e o ev eb g =
-      let x = short_ok l f n dm m e o in
-      wrote f black m n short (narrow_widths 1) vs l d (ap (field_bytes (kinds short)) (short_values m n dm e) ∙ x.is ∙ ap (numbers (narrow_widths 1)) (sym ev)) eb g
+  wrote_short dm e o eb g =
+      wrote f black m n short (narrow_values 1 m (F.pixels dm) ((8 + n) % 256)) l d (ap (field_bytes (kinds short)) (short_values m n dm e) ∙ (short_ok l f n dm m e o).is) eb g
 
-  pub wrote_extended : (dm : ℕ) → F.pixels dm ≡ F.whole_pixels m.dx → Ready l f m n extended → vs ≡ narrow_values 2 m (F.pixels dm) ((13 + n) % 65536)
+  pub wrote_extended : (dm : ℕ) {xs : List Field} → F.pixels dm ≡ F.whole_pixels m.dx → Ready l f m n extended → xs ≡ narrow_values 2 m (F.pixels dm) ((13 + n) % 65536)
       → b ≡ 16 * f + black_bit black + (4 + (13 + n) / 65536)
-      → (r ≡ 17) × (d ≡ (b ∷ numbers (narrow_widths 2) vs) ++ drop 17 l)
+      → (r ≡ 1 + total xs) × (d ≡ (b ∷ numbers xs) ++ drop (1 + total xs) l)
       → (r ≡ 17) × (d ≡ head_of (in_form f black m (replicate n 0) extended) ++ drop 17 l)
   wrote_extended dm e o ev eb g =
-      let x = extended_ok l f n dm m e o in
-      wrote f black m n extended (narrow_widths 2) vs l d (ap (field_bytes (kinds extended)) (extended_values m n dm e) ∙ x.is ∙ ap (numbers (narrow_widths 2)) (sym ev)) eb g
+      wrote f black m n extended (narrow_values 2 m (F.pixels dm) ((13 + n) % 65536)) l d (ap (field_bytes (kinds extended)) (extended_values m n dm e) ∙ (extended_ok l f n dm m e o).is) eb (rw ev at g)
 
-  pub wrote_long : Ready l f m n long → vs ≡ long_values m (28 + n) → b ≡ 16 * f + black_bit black + 7
-      → (r ≡ 37) × (d ≡ (b ∷ numbers long_widths vs) ++ drop 37 l)
+  pub wrote_long : {xs : List Field} → Ready l f m n long → xs ≡ long_values m (28 + n) → b ≡ 16 * f + black_bit black + 7
+      → (r ≡ 1 + total xs) × (d ≡ (b ∷ numbers xs) ++ drop (1 + total xs) l)
       → (r ≡ 37) × (d ≡ head_of (in_form f black m (replicate n 0) long) ++ drop 37 l)
-  wrote_long o ev eb g =
-      wrote f black m n long long_widths vs l d ((long_ok l f n m o).is ∙ ap (numbers long_widths) (sym ev)) eb g
+  wrote_long o ev eb g = wrote f black m n long (long_values m (28 + n)) l d (long_ok l f n m o).is eb (rw ev at g)
 
 -- The form picked.
 

@@ -14,7 +14,7 @@ use Rattle.escapement.specs.declared.Pixels.{Pixels}
 use Rattle.measures.specs.Said.{said}
 use Rattle.measures.specs.declared.Measures.{Measures}
 use Rattle.sign.proofs.SignLaws.{at64, reads_back, bound_back}
-use Rattle.head.specs.Head.{narrow_values, long_values}
+use Rattle.head.specs.Head.{field, narrow_row, narrow_values, long_values}
 
 -- Two's complement.
 
@@ -40,7 +40,7 @@ offset w z top f e q h l = rw (e ∙ to_z-of_z {w = w} f ∙ q) (bound_back z to
 pub narrow_all : (k : ℕ) (m : Measures) (dm : Pixels) (n : ℕ) {c t d w h x y : ℕ}
     → at64 m.code ≡ m.code → at64 m.tfm ≡ m.tfm → at64 m.w ≡ m.w → at64 m.h ≡ m.h
     → c ≡ mag (at64 m.code) → t ≡ mag (at64 m.tfm) → d ≡ dm.0 → w ≡ mag (at64 m.w) → h ≡ mag (at64 m.h) → x ≡ twos k m.hoff → y ≡ twos k m.voff
-    → n ∷ c ∷ t ∷ d ∷ 0 ∷ w ∷ h ∷ x ∷ y ∷ [] ≡ narrow_values k (said m) (whole_of dm) n
+    → narrow_row k n c t d w h x y ≡ narrow_values k (said m) (whole_of dm) n
 narrow_all k m dm n ac at aw ah ec et ed ew eh eo ev =
     rw (ec ∙ ap mag ac, et ∙ ap mag at, ed, ew ∙ ap mag aw, eh ∙ ap mag ah, eo, ev) refl
 
@@ -49,6 +49,6 @@ pub long_all : (m : Measures) (n : ℕ) {c t dx dy w h x y : ℕ}
     → at64 m.w ≡ m.w → at64 m.h ≡ m.h
     → c ≡ mag (at64 m.code) → t ≡ twos 4 (at64 m.tfm) → dx ≡ twos 4 (at64 m.dx.0) → dy ≡ twos 4 (at64 m.dy.0)
     → w ≡ mag (at64 m.w) → h ≡ mag (at64 m.h) → x ≡ twos 4 m.hoff → y ≡ twos 4 m.voff
-    → n ∷ c ∷ t ∷ dx ∷ dy ∷ w ∷ h ∷ x ∷ y ∷ [] ≡ long_values (said m) n
+    → field 4 n ∷ field 4 c ∷ field 4 t ∷ field 4 dx ∷ field 4 dy ∷ field 4 w ∷ field 4 h ∷ field 4 x ∷ field 4 y ∷ [] ≡ long_values (said m) n
 long_all m n ac at ax ay aw ah ec et ex ey ew eh eo ev =
     rw (ec ∙ ap mag ac, et ∙ ap (twos 4) at, ex ∙ ap (twos 4) ax, ey ∙ ap (twos 4) ay, ew ∙ ap mag aw, eh ∙ ap mag ah, eo, ev) refl

@@ -6,6 +6,7 @@ use Rattle.format.specs.Numbers.{bytes, twos, size, field_bytes}
 use Rattle.format.specs.Pieces.{Form, short, extended, long, kinds, Packet, fields, flag}
 use Rattle.format.specs.Choice.{in_form, holds}
 use Rattle.pick.specs.Picks.{Judged, tried}
+use Rattle.head.specs.declared.Field.{Field}
 use Rattle.pick.specs.declared.Picked.{Picked}
 use Rattle.pick.specs.declared.Picked.TheVariants.{Short, Extended, Long}
 
@@ -30,42 +31,43 @@ head_length (Long x y) = 37
 -- Numbers in a row.
 
 -- Numbers, each in its own number of bytes.
-unfoldable pub numbers : List ℕ → List ℕ → List ℕ
-numbers [] vs = []
-numbers (k ∷ ks) [] = []
-numbers (k ∷ ks) (v ∷ vs) = bytes k v ++ numbers ks vs
+unfoldable pub numbers : List Field → List ℕ
+numbers [] = []
+numbers (x ∷ xs) = bytes x.width x.value ++ numbers xs
 
 -- How many bytes they have.
-abbrev pub total : List ℕ → ℕ
+abbrev pub total : List Field → ℕ
 total [] = 0
-total (k ∷ ks) = k + total ks
+total (x ∷ xs) = x.width + total xs
 
 -- Each number fits its bytes, of which there are at most four.
-abbrev pub Fit : List ℕ → List ℕ → Type 0
-Fit [] [] = Unit {0}
-Fit [] (v ∷ vs) = ⊥
-Fit (k ∷ ks) [] = ⊥
-Fit (k ∷ ks) (v ∷ vs) = (k ≤ 4) × (v < 256 ^ k) × Fit ks vs
+abbrev pub Fit : List Field → Type 0
+Fit [] = Unit {0}
+Fit (x ∷ xs) = (x.width ≤ 4) × (x.value < 256 ^ x.width) × Fit xs
 
 -- The numbers of the three forms.
 
--- The widths of a short packet, of k = 1, or of an extended one, of k = 2; dy has no bytes.
-abbrev pub narrow_widths : ℕ → List ℕ
-narrow_widths k = k ∷ 1 ∷ 3 ∷ k ∷ 0 ∷ k ∷ k ∷ k ∷ k ∷ []
+-- A number in k bytes.
+abbrev pub field : ℕ → ℕ → Field
+field k n = record { width = k; value = n }
 
--- Their numbers, for dm and a length.
-abbrev pub narrow_values : ℕ → F.Measures → F.Pixels → ℕ → List ℕ
-narrow_values k m (F.pixels dm) n =
-    n ∷ mag m.code ∷ mag m.tfm ∷ dm ∷ 0 ∷ mag m.w ∷ mag m.h ∷ twos k m.hoff ∷ twos k m.voff ∷ []
+-- Those of a short packet, of k = 1, or of an extended one, of k = 2; dy has no bytes.
+abbrev pub narrow_row : ℕ → ℕ → ℕ → ℕ → ℕ → ℕ → ℕ → ℕ → ℕ → List Field
+narrow_row k n code tfm dm w h x y =
+    field k n ∷ field 1 code ∷ field 3 tfm ∷ field k dm ∷ field 0 0 ∷ field k w ∷ field k h ∷ field k x ∷ field k y ∷ []
+
+-- The same for measures, dm and a length.
+abbrev pub narrow_values : ℕ → F.Measures → F.Pixels → ℕ → List Field
+narrow_values k m (F.pixels dm) n = narrow_row k n (mag m.code) (mag m.tfm) dm (mag m.w) (mag m.h) (twos k m.hoff) (twos k m.voff)
 
 -- An escapement in four bytes.
 abbrev pub scaled_twos : F.Scaled → ℕ
 scaled_twos (F.scaled z) = twos 4 z
 
 -- Those of a long packet.
-abbrev pub long_values : F.Measures → ℕ → List ℕ
+abbrev pub long_values : F.Measures → ℕ → List Field
 long_values m n =
-    n ∷ mag m.code ∷ twos 4 m.tfm ∷ scaled_twos m.dx ∷ scaled_twos m.dy ∷ mag m.w ∷ mag m.h ∷ twos 4 m.hoff ∷ twos 4 m.voff ∷ []
+    field 4 n ∷ field 4 (mag m.code) ∷ field 4 (twos 4 m.tfm) ∷ field 4 (scaled_twos m.dx) ∷ field 4 (scaled_twos m.dy) ∷ field 4 (mag m.w) ∷ field 4 (mag m.h) ∷ field 4 (twos 4 m.hoff) ∷ field 4 (twos 4 m.voff) ∷ []
 
 -- The magnitude of an escapement is below top.
 abbrev pub ScaledBelow : ℕ → F.Scaled → Type 0

@@ -11,11 +11,18 @@ ghost use Rattle.escapement.specs.Count.{whole_of, scaled_of};
 ghost use Rattle.measures.specs.Said.{said};
 ghost use Rattle.pick.specs.Picks.{Judged, IsPicked};
 ghost use Rattle.pick.specs.declared.Picked.TheVariants.{Short, Extended, Long};
-ghost use Rattle.head.specs.Head.{head_for, head_length, numbers, total, Fit, narrow_widths, narrow_values, long_values, ScaledBelow, Ready};
+ghost use Rattle.head.specs.Head.{head_for, head_length, numbers, total, Fit, narrow_row, narrow_values, long_values, ScaledBelow, Ready};
 
 use escapement::Pixels;
 use measures::Measures;
 use pick::Picked;
+
+// A number, and in how many bytes it is written.
+#[derive(Clone, Copy)]
+struct Field {
+    width: usize,
+    value: u64,
+}
 
 // n in k bytes from at on, the first most significant; it answers the place behind.
 fn put_number(buf: &mut [u8], at: usize, k: usize, n: u64) -> usize
@@ -28,27 +35,28 @@ fn put_number(buf: &mut [u8], at: usize, k: usize, n: u64) -> usize
 }
 
 // Nine numbers, each in its own number of bytes, from at on.
-fn put_fields(buf: &mut [u8], at: usize, ks: [usize; 9], vs: [u64; 9]) -> usize
-    requires { (at + total ks ≤ length buf.old) × Fit ks vs }
-    ensures { (result ≡ at + total ks) × (buf.new ≡ sets buf.old at (numbers ks vs)) }
+fn put_fields(buf: &mut [u8], at: usize, fields: [Field; 9]) -> usize
+    requires { (at + total fields ≤ length buf.old) × Fit fields }
+    ensures { (result ≡ at + total fields) × (buf.new ≡ sets buf.old at (numbers fields)) }
 {
     let mut to = at;
-    for i in 0..9 {
-        to = put_number(buf, to, ks[i], vs[i]);
+    for x in fields {
+        to = put_number(buf, to, x.width, x.value);
     }
     to
 }
 
 // The flag and nine numbers from the buffer's start on.
-fn put_head(buf: &mut [u8], flag: u64, ks: [usize; 9], vs: [u64; 9]) -> usize
-    requires { (1 + total ks ≤ length buf.old) × (flag < 256) × Fit ks vs }
-    ensures { (result ≡ 1 + total ks) × (buf.new ≡ (flag ∷ numbers ks vs) ++ drop (1 + total ks) buf.old) }
+fn put_head(buf: &mut [u8], flag: u64, fields: [Field; 9]) -> usize
+    requires { (1 + total fields ≤ length buf.old) × (flag < 256) × Fit fields }
+    ensures { (result ≡ 1 + total fields) × (buf.new ≡ (flag ∷ numbers fields) ++ drop (1 + total fields) buf.old) }
 {
     buf[0] = flag as u8;
-    put_fields(buf, 1, ks, vs)
+    put_fields(buf, 1, fields)
 }
 
 // The same for a short packet, which nearly every one is: its bytes at once.
+// Kept: nine numbers and not the fields, since this form knows their widths.
 fn put_short(
     buf: &mut [u8],
     flag: u64,
@@ -61,8 +69,8 @@ fn put_short(
     x: u64,
     y: u64,
 ) -> usize
-    requires { (11 ≤ length buf.old) × (flag < 256) × Fit (narrow_widths 1) (size ∷ code ∷ tfm ∷ dm ∷ 0 ∷ w ∷ h ∷ x ∷ y ∷ []) }
-    ensures { (result ≡ 11) × (buf.new ≡ (flag ∷ numbers (narrow_widths 1) (size ∷ code ∷ tfm ∷ dm ∷ 0 ∷ w ∷ h ∷ x ∷ y ∷ [])) ++ drop 11 buf.old) }
+    requires { (11 ≤ length buf.old) × (flag < 256) × Fit (narrow_row 1 size code tfm dm w h x y) }
+    ensures { (result ≡ 11) × (buf.new ≡ (flag ∷ numbers (narrow_row 1 size code tfm dm w h x y)) ++ drop 11 buf.old) }
 {
     buf[..11].copy_from_slice(&[
         flag as u8,
@@ -99,7 +107,7 @@ fn flag_of(f: usize, black: bool, form: u64) -> u64
 }
 
 // The fields of a short packet, of k = 1, or of an extended one, of k = 2, with the offsets x and y; dy has no bytes.
-fn narrow_values(m: Measures, k: usize, dm: Pixels, x: i64, y: i64, length: u64) -> [u64; 9]
+fn narrow_values(m: Measures, k: usize, dm: Pixels, x: i64, y: i64, length: u64) -> [Field; 9]
     requires { (k ≤ 4) × (mag x < 256 ^ k) × (mag y < 256 ^ k) × (x ≡ m.hoff) × (y ≡ m.voff) }
     ensures { result ≡ narrow_values k (said m) (whole_of dm) length }
 {
@@ -109,11 +117,39 @@ fn narrow_values(m: Measures, k: usize, dm: Pixels, x: i64, y: i64, length: u64)
     let h = sign::magnitude(m.h);
     let hoff = twos(x, k);
     let voff = twos(y, k);
-    [length, code, tfm, u64::from(dm.0), 0, w, h, hoff, voff]
+    [
+        Field {
+            width: k,
+            value: length,
+        },
+        Field {
+            width: 1,
+            value: code,
+        },
+        Field {
+            width: 3,
+            value: tfm,
+        },
+        Field {
+            width: k,
+            value: u64::from(dm.0),
+        },
+        Field { width: 0, value: 0 },
+        Field { width: k, value: w },
+        Field { width: k, value: h },
+        Field {
+            width: k,
+            value: hoff,
+        },
+        Field {
+            width: k,
+            value: voff,
+        },
+    ]
 }
 
 // The fields of a long packet, with the offsets x and y.
-fn long_values(m: Measures, x: i64, y: i64, length: u64) -> [u64; 9]
+fn long_values(m: Measures, x: i64, y: i64, length: u64) -> [Field; 9]
     requires { (mag m.tfm < 4294967296) × ScaledBelow 4294967296 (scaled_of m.dx) × ScaledBelow 4294967296 (scaled_of m.dy) × (mag x < 4294967296) × (mag y < 4294967296) × (x ≡ m.hoff) × (y ≡ m.voff) }
     ensures { result ≡ long_values (said m) length }
 {
@@ -127,10 +163,42 @@ fn long_values(m: Measures, x: i64, y: i64, length: u64) -> [u64; 9]
     let down = twos(dy.0, 4);
     let hoff = twos(x, 4);
     let voff = twos(y, 4);
-    [length, code, tfm, across, down, w, h, hoff, voff]
+    [
+        Field {
+            width: 4,
+            value: length,
+        },
+        Field {
+            width: 4,
+            value: code,
+        },
+        Field {
+            width: 4,
+            value: tfm,
+        },
+        Field {
+            width: 4,
+            value: across,
+        },
+        Field {
+            width: 4,
+            value: down,
+        },
+        Field { width: 4, value: w },
+        Field { width: 4, value: h },
+        Field {
+            width: 4,
+            value: hoff,
+        },
+        Field {
+            width: 4,
+            value: voff,
+        },
+    ]
 }
 
 // The head of a short packet.
+// Kept: it and the next share narrow_values and flag_of; one function of both would only choose between put_short and put_head.
 fn write_short(
     buf: &mut [u8],
     f: usize,
@@ -148,7 +216,16 @@ fn write_short(
     let vs = narrow_values(m, 1, dm, i64::from(x), i64::from(y), length % 256);
     let flag = flag_of(f, black, length / 256);
     put_short(
-        buf, flag, vs[0], vs[1], vs[2], vs[3], vs[5], vs[6], vs[7], vs[8],
+        buf,
+        flag,
+        vs[0].value,
+        vs[1].value,
+        vs[2].value,
+        vs[3].value,
+        vs[5].value,
+        vs[6].value,
+        vs[7].value,
+        vs[8].value,
     )
 }
 
@@ -169,7 +246,7 @@ fn write_extended(
     let length = 13 + n as u64;
     let vs = narrow_values(m, 2, dm, i64::from(x), i64::from(y), length % 65536);
     let flag = flag_of(f, black, 4 + length / 65536);
-    put_head(buf, flag, [2, 1, 3, 2, 0, 2, 2, 2, 2], vs)
+    put_head(buf, flag, vs)
 }
 
 // The head of a long packet.
@@ -180,7 +257,7 @@ fn write_long(buf: &mut [u8], f: usize, black: bool, m: Measures, x: i32, y: i32
     let length = 28 + n as u64;
     let vs = long_values(m, i64::from(x), i64::from(y), length);
     let flag = flag_of(f, black, 7);
-    put_head(buf, flag, [4, 4, 4, 4, 4, 4, 4, 4, 4], vs)
+    put_head(buf, flag, vs)
 }
 
 // The number of bytes before the raster in the form picked.

@@ -63,7 +63,7 @@ module _ (s : List ℕ) (at f repeat : ℕ) where
   pub item_short : (x : Number) → f ≤ 13 → read_at s at f ≡ Ok x → Ok (Run x.n x.next) ≡ to_item s (item_of f repeat (from s at))
   item_short x l e =
       split (2 * length s) at
-      (λ h. absurd (let z = read_past s at f h ∙ e in let z : ◌≡◌ {A = ℕ} 0 1 = cc in omega arith))
+      (λ h. absurd (let z = read_past s at f h ∙ e in cc))
       (λ h. split 14 (get_or (nybbles s) at 0)
-      (λ p. absurd (let z = read_mark s at f h (omega arith) (omega arith) ∙ e in let z : ◌≡◌ {A = ℕ} 0 1 = cc in omega arith))
+      (λ p. absurd (let z = read_mark s at f h (omega arith) (omega arith) ∙ e in cc))
       (λ p. ap (λ r. as_run (wanted r)) (sym e) ∙ item_run (get_or (nybbles s) at 0) refl h p))

@@ -33,7 +33,8 @@ fn number_at(s: &[u8], at: usize, f: Factor) -> Result<Number, Refusal>
     packed::read_number(s, at, f).map_err(refusal_of)
 }
 
-// The item whose first nybble is at `at`, in a row that has had the repeat given.
+// The item whose first nybble is at `at`, in a row that has had the repeat given. A call, so that what calls `item_at` stays small.
+#[inline(never)]
 pub fn other_at(s: &[u8], at: usize, f: Factor, repeat: usize) -> Result<Item, Refusal>
     ensures { result ≡ to_item s.now (item_of f.n repeat (from s.now at)) }
 {
@@ -60,6 +61,7 @@ pub fn other_at(s: &[u8], at: usize, f: Factor, repeat: usize) -> Result<Item, R
 }
 
 // The same, looking first for a run of one or two nybbles, which most are.
+#[inline(always)]
 pub fn item_at(s: &[u8], at: usize, f: Factor, repeat: usize) -> Result<Item, Refusal>
     ensures { result ≡ to_item s.now (item_of f.n repeat (from s.now at)) }
 {

@@ -85,7 +85,7 @@ module _ {s : List ℕ} {f w h at : ℕ} {st : R.State} (t : Left s f w h at st)
         go (fault y) p q =
             let z : x ≡ coded y = cc in
             ap (λ (d : D.Refusal). Err d) z ∙ walk_stop t.g f w h y st (from s at) l (omega (arith, from_length s at, t.fuel)) p ∙ t.same
-        go (ok u) p q = absurd (let z : ◌≡◌ {A = ℕ} 0 1 = cc in omega arith)
+        go (ok u) p q = absurd cc
 
     -- A turn that goes on, to a later place.
     pub left_turn : (a : Result (State × ℕ) D.Refusal) (st' : State) (next : ℕ) → f ≤ 13 → 0 < w → a ≡ Ok (st', next) → a ≡ to_turn s black (turn f w h st (from s at)) → (at < next) × Left s f w h next (plain st')
@@ -93,7 +93,7 @@ module _ {s : List ℕ} {f w h at : ℕ} {st : R.State} (t : Left s f w h at st)
     left_turn a st' next hf pos i e = go (turn f w h st (from s at)) refl (sym i ∙ e)
       where
         go : (r : F.Result (Item × R.State × List ℕ)) → turn f w h st (from s at) ≡ r → Ok (st', next) ≡ to_turn s black r → (at < next) × Left s f w h next (plain st')
-        go (fault y) p q = absurd (let z : ◌≡◌ {A = ℕ} 0 1 = cc in omega arith)
+        go (fault y) p q = absurd cc
         go (ok u) p q =
             let q' : ◌≡◌ {A = State × ℕ} (coloured (colour_after black u.0) u.1, 2 * length s - length u.2) (st', next) = cc in
             let y : coloured (colour_after black u.0) u.1 ≡ st' = ap (λ (t : State × ℕ). t.0) q' in

@@ -14,8 +14,7 @@ use packed::Factor;
 use refusals::Refusal;
 use state::State;
 
-// The item at `at`, read and judged, with the state after it and the place of the next nybble: runs of one or two nybbles, which most
-// are, first.
+// The item at `at`, read and judged: the state after it and the place of the next nybble.
 fn turn_at(
     s: &[u8],
     at: usize,
@@ -27,10 +26,7 @@ fn turn_at(
     requires { Within w h (plain state) }
     ensures { result ≡ to_turn s.now state.black (turn f.n w h (plain state) (from s.now at)) }
 {
-    if let Some(short) = packed::short_at(s, at, f) {
-        return Ok((state.run(w, h, short.n)?, short.next));
-    }
-    match items::other_at(s, at, f, state.repeat)? {
+    match items::item_at(s, at, f, state.repeat)? {
         Item::Run(n, next) => Ok((state.run(w, h, n)?, next)),
         Item::Repeat(n, next) => Ok((state.repeat(h, n)?, next)),
     }

@@ -9,11 +9,7 @@ use std::io::Write;
 
 // Each font of the cases.
 fn list_each<W: Write>(out: &mut W, s: &[u8]) -> io::Result<()> {
-    for case in (Cases {
-        s,
-        at: 0,
-        head: |_| 4,
-    }) {
+    for case in Cases::new(s, |_| 4) {
         let Ok(Case { bytes, .. }) = case else {
             return lines::print_bad(out);
         };

@@ -1,95 +1,43 @@
 // A character looked at: the font of a path is read, and the character drawn as rows of text or as a plain PBM.
 #![tactic(auto)]
 
-ghost use Rattle.std.specs.Prelude.{◌≤◌, ◌<◌};
+ghost use Rattle.std.specs.Prelude.{◌<◌};
 
-use glyph::Drawn;
 use measures::Measures;
-use refusals::Refusal;
+use refusals::{Refusal, Refused};
 use std::fs::File;
 use std::io::Write;
 use std::rt::Files;
 use std::{io, str};
-
-// The digits' characters, '0' to '9'.
-const ZERO: usize = 48;
-
-const NINE: usize = 57;
-
-// The code that a text names, or that it names none.
-#[derive(Drop)]
-enum Asked {
-    Code(usize),
-    Nothing,
-}
 
 // How to use the program, in a line.
 fn say_usage<E: Write>(err: &mut E) -> io::Result<()> {
     err.write_all(b"usage: look FONT CODE [pbm]\n")
 }
 
-// The code from 0 to 255 that a text of decimal digits names.
-fn code_of(text: &[u8]) -> Asked {
-    if text.len() == 0 {
-        return Asked::Nothing;
+// The code from 0 to 255 that a text of decimal digits names. (`parse` alone would take a sign too.)
+fn code_of(text: &[u8]) -> Option<usize> {
+    if !text.iter().all(|c| c.is_ascii_digit()) {
+        return None;
     }
-    let mut n: usize = 0;
-    let mut i: usize = 0;
-    while i < text.len() {
-        let d = byte::wide(text[i]);
-        if d < ZERO {
-            return Asked::Nothing;
-        }
-        if NINE < d {
-            return Asked::Nothing;
-        }
-        n = 10 * n + (d - ZERO);
-        if 255 < n {
-            return Asked::Nothing;
-        }
-        i += 1;
-    }
-    Asked::Code(n)
+    let code: u8 = str::from_utf8(text).ok()?.parse().ok()?;
+    Some(usize::from(code))
 }
 
-// A pixel spelled as one of two characters.
-fn spelled(pixel: u8, black: u8, white: u8) -> u8 {
-    if pixel == 1 {
-        return black;
-    }
-    white
-}
-
-// Each pixel spelled in its place.
+// Each pixel spelled in its place as one of two characters.
 fn spell(pixels: &mut [u8], black: u8, white: u8) {
-    let mut i: usize = 0;
-    while i < pixels.len() {
-        pixels[i] = spelled(pixels[i], black, white);
-        i += 1;
+    for p in pixels {
+        *p = if *p == 1 { black } else { white };
     }
-}
-
-// The length of a line of w bytes, if so many are left.
-fn line_length(w: usize, left: usize) -> usize
-    requires { (0 < w) × (0 < left) }
-    ensures { (0 < result) × (result ≤ left) }
-{
-    if w < left {
-        return w;
-    }
-    left
 }
 
 // A text in lines of w bytes, the last one as long as what is left.
 fn print_rows<O: Write>(out: &mut O, text: &[u8], w: usize) -> io::Result<()>
     requires { 0 < w }
 {
-    let mut at: usize = 0;
-    while at < text.len() {
-        let end = at + line_length(w, text.len() - at);
-        out.write_all(&text[at..end])?;
+    for row in text.chunks(w) {
+        out.write_all(row)?;
         out.write_all(b"\n")?;
-        at = end;
     }
     Ok(())
 }
@@ -121,30 +69,29 @@ fn print_picture<O: Write, E: Write>(
 ) -> io::Result<()> {
     let w = sign::magnitude(m.w);
     let h = sign::magnitude(m.h);
-    let n = lines::area(w, h);
     if w == 0 {
         return writeln!(err, "look: no pixels in character {code}");
     }
-    if pixels.len() < n {
+    let Some(pixels) = pixels.get_mut(..lines::area(w, h)) else {
         return Ok(());
-    }
+    };
     if pbm {
-        print_pbm(out, &mut pixels[..n], w, h)
+        print_pbm(out, pixels, w, h)
     } else {
-        print_text(out, &mut pixels[..n], w)
+        print_text(out, pixels, w)
     }
 }
 
-// Why nothing is drawn, in a line: 16 is said in words.
-fn say_refused<E: Write>(err: &mut E, x: Refusal, place: usize, code: usize) -> io::Result<()> {
-    if x.0 == 16 {
-        writeln!(err, "look: the font has no character {code}")
-    } else {
-        let number = x.0;
-        writeln!(
+// Why nothing is drawn, in a line: that the font lacks the code is said in words.
+fn say_refused<E: Write>(err: &mut E, x: Refused, code: usize) -> io::Result<()> {
+    match x.refusal {
+        Refusal::NoSuchCode => writeln!(err, "look: the font has no character {code}"),
+        refusal => writeln!(
             err,
-            "look: the font is refused, number {number} of document 01, at byte {place}"
-        )
+            "look: the font is refused, number {} of document 01, at byte {}",
+            refusal.number(),
+            x.place
+        ),
     }
 }
 
@@ -160,8 +107,8 @@ fn show<O: Write, E: Write>(
     let buf: &mut [u8] = &mut pixels;
     let drawn = draw::draw(font, code, buf);
     match drawn {
-        Drawn::Measured(m) => print_picture(m, code, buf, pbm, out, err),
-        Drawn::Refused(x, place) => say_refused(err, x, place, code),
+        Ok(m) => print_picture(m, code, buf, pbm, out, err),
+        Err(x) => say_refused(err, x, code),
     }
 }
 
@@ -188,8 +135,7 @@ fn look<R: Files, O: Write, E: Write>(
     out: &mut O,
     err: &mut E,
 ) -> io::Result<()> {
-    let asked = code_of(text);
-    let Asked::Code(code) = asked else {
+    let Some(code) = code_of(text) else {
         return err.write_all(b"look: a code is a number from 0 to 255\n");
     };
     let Some(mut file) = open(rt, path) else {
@@ -204,14 +150,6 @@ fn look<R: Files, O: Write, E: Write>(
     show(&font[..n], code, pbm, out, err)
 }
 
-// The word that asks for a PBM.
-fn is_pbm(word: &[u8]) -> bool {
-    if word.len() != 3 {
-        return false;
-    }
-    (word[0] == b'p') & ((word[1] == b'b') & (word[2] == b'm'))
-}
-
 // The program with so many arguments, its own name among them: a path, a code and, if a third is there, pbm.
 pub fn run<R: Files, O: Write, E: Write>(
     rt: &R,
@@ -222,11 +160,9 @@ pub fn run<R: Files, O: Write, E: Write>(
     out: &mut O,
     err: &mut E,
 ) -> io::Result<()> {
-    if count == 3 {
-        return look(rt, path, code, false, out, err);
+    match (count, word) {
+        (3, _) => look(rt, path, code, false, out, err),
+        (4, b"pbm") => look(rt, path, code, true, out, err),
+        _ => say_usage(err),
     }
-    if (count == 4) & is_pbm(word) {
-        return look(rt, path, code, true, out, err);
-    }
-    say_usage(err)
 }

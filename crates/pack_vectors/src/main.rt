@@ -105,11 +105,7 @@ fn head_of(kind: u8) -> usize
 
 // Each case.
 fn pack_each<W: Write>(out: &mut W, s: &[u8]) -> io::Result<()> {
-    for case in (Cases {
-        s,
-        at: 0,
-        head: head_of,
-    }) {
+    for case in Cases::new(s, head_of) {
         let Ok(Case { head, bytes }) = case else {
             return lines::print_bad(out);
         };

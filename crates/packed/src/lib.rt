@@ -103,6 +103,7 @@ fn read_large(s: &[u8], at: usize, m: usize) -> Result<Number, Unread>
 }
 
 // The packed number of one or two nybbles whose first is at `at`, for f. Most numbers are such.
+#[inline(always)]
 pub fn short_at(s: &[u8], at: usize, f: Factor) -> Option<Number>
     ensures { IsShort s.now at f.n result }
 {
@@ -111,16 +112,15 @@ pub fn short_at(s: &[u8], at: usize, f: Factor) -> Option<Number>
         return None;
     }
     let a = nybbles::nybble(s, at);
-    let next = at + 1;
-    if a <= f.n {
-        return if a == 0 {
-            None
-        } else {
-            Some(Number { n: a, next })
-        };
+    if a == 0 {
+        return None;
     }
     if 13 < a {
         return None;
+    }
+    let next = at + 1;
+    if a <= f.n {
+        return Some(Number { n: a, next });
     }
     if end <= next {
         return None;

@@ -57,14 +57,3 @@ walked_more {b} {w} {c} {d} {e} {rs} {n} {k} {m} g l z x =
       further = omega (arith, g.further, x.further);
       inside = x.inside;
     }
-
--- Nothing is left, or there is room for no more.
-pub kept_over : {b : List ℕ} {w : ℕ} {c : Cursor} {p : Part} → Walked b w c p → items_left b w p.cursor ≡ [] → Kept b w c p
-kept_over g e = record { walked = g; over = λ _. e }
-
-pub kept_full : {b : List ℕ} {w : ℕ} {c : Cursor} {p : Part} → Walked b w c p → 512 ≤ p.n → Kept b w c p
-kept_full g h = record { walked = g; over = λ l. absurd (omega arith) }
-
--- What callers need: with each part that is full the walk goes on.
-pub kept_less : {b : List ℕ} {w : ℕ} (p q : Part) → 512 ≤ p.n → Kept b w p.cursor q → length b - q.cursor.at + q.n < length b - p.cursor.at + p.n
-kept_less p q l g = omega (arith, g.walked.further, at_most g.walked.inside)

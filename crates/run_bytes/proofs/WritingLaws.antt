@@ -140,9 +140,6 @@ pub record Writing (b : List ℕ) (w f : ℕ) (d : List ℕ) (i : ℕ) (now : Li
   pub same : length now ≡ length d
   pub is : put_all d i (writings f (items_left b w begin)) ≡ put_all now to (writings f (items_left b w from))
 
-pub writing_start : {b : List ℕ} {w f i : ℕ} {d : List ℕ} {p : Part} → Kept b w begin p → Room d i (writings f (items_left b w begin)) → Writing b w f d i d i p
-writing_start g m = record { from = begin; part = g; place = refl; room = m; same = refl; is = refl }
-
 module _ {b : List ℕ} {w f i to : ℕ} {d now : List ℕ} (p : Part) (s : Writing b w f d i now to p) where
   -- What is left: the part, and what is left behind it.
   left_is : writings f (items_left b w s.from) ≡ writings f (kept (taken p)) ++ writings f (items_left b w p.cursor)
@@ -172,13 +169,6 @@ module _ {b : List ℕ} {w f i to : ℕ} {d now : List ℕ} (p : Part) (s : Writ
       same = put_same q ∙ s.same;
       is = rest_is;
     }
-
-    -- No item is left: all are written.
-    pub writing_end : p.n < 512 → Put d i (writings f (items_left b w begin)) r then
-    unfolding writings
-    writing_end l =
-        let e : writings f (items_left b w p.cursor) ≡ [] = ap (writings f) (s.part.over l) in
-        record { place = omega (arith, s.place, q.place, left_long, ap length e); is = sym (rest_is ∙ ap (put_all then r) e ∙ put_none then r) }
 
 -- The bytes.
 

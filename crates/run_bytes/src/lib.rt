@@ -9,12 +9,13 @@ ghost use Rattle.walk.specs.Walk.{begin, items_left};
 ghost use Rattle.part.specs.Parts.{kept, Small, Kept, First};
 ghost use Rattle.run_bytes.specs.Put.{Room, Put};
 
+use packed::Factor;
 use part::{Part, Run};
 
 // The repeat m that stands before a run, 0 for none.
-fn write_repeat(buf: &mut [u8], i: usize, f: usize, m: usize) -> usize
-    requires { (f ≤ 13) × (m ≤ 65536) × Room buf.old i (writings f (before m [])) }
-    ensures { Put buf.old i (writings f (before m [])) result buf.new }
+fn write_repeat(buf: &mut [u8], i: usize, f: Factor, m: usize) -> usize
+    requires { (m ≤ 65536) × Room buf.old i (writings f.n (before m [])) }
+    ensures { Put buf.old i (writings f.n (before m [])) result buf.new }
 {
     match m {
         0 => i,
@@ -30,18 +31,18 @@ fn write_repeat(buf: &mut [u8], i: usize, f: usize, m: usize) -> usize
 }
 
 // A run with the repeat before it.
-fn write_run(buf: &mut [u8], i: usize, f: usize, r: Run) -> usize
-    requires { (f ≤ 13) × Small r × Room buf.old i (writings f (before r.repeat (run r.length ∷ []))) }
-    ensures { Put buf.old i (writings f (before r.repeat (run r.length ∷ []))) result buf.new }
+fn write_run(buf: &mut [u8], i: usize, f: Factor, r: Run) -> usize
+    requires { Small r × Room buf.old i (writings f.n (before r.repeat (run r.length ∷ []))) }
+    ensures { Put buf.old i (writings f.n (before r.repeat (run r.length ∷ []))) result buf.new }
 {
     let j = write_repeat(buf, i, f, r.repeat as usize);
     emit::write_number(buf, j, f, r.length as usize)
 }
 
 // The runs of a part.
-fn write_part(buf: &mut [u8], i: usize, f: usize, runs: &[Run]) -> usize
-    requires { (f ≤ 13) × All Small runs.now × Room buf.old i (writings f (kept runs.now)) }
-    ensures { Put buf.old i (writings f (kept runs.now)) result buf.new }
+fn write_part(buf: &mut [u8], i: usize, f: Factor, runs: &[Run]) -> usize
+    requires { All Small runs.now × Room buf.old i (writings f.n (kept runs.now)) }
+    ensures { Put buf.old i (writings f.n (kept runs.now)) result buf.new }
 {
     let mut to = i;
     for r in runs {
@@ -51,9 +52,9 @@ fn write_part(buf: &mut [u8], i: usize, f: usize, runs: &[Run]) -> usize
 }
 
 // The nybbles of the whole count list from the nybble at i on, part after part.
-fn write_nybbles(b: &[u8], w: usize, f: usize, part: &mut Part, buf: &mut [u8], i: usize) -> usize
-    requires { (f ≤ 13) × Kept b.now w begin part.old × Room buf.old i (writings f (items_left b.now w begin)) }
-    ensures { Put buf.old i (writings f (items_left b.now w begin)) result buf.new }
+fn write_nybbles(b: &[u8], w: usize, f: Factor, part: &mut Part, buf: &mut [u8], i: usize) -> usize
+    requires { Kept b.now w begin part.old × Room buf.old i (writings f.n (items_left b.now w begin)) }
+    ensures { Put buf.old i (writings f.n (items_left b.now w begin)) result buf.new }
 {
     let mut to = i;
     loop {
@@ -65,19 +66,19 @@ fn write_nybbles(b: &[u8], w: usize, f: usize, part: &mut Part, buf: &mut [u8], 
     }
 }
 
-// The raster bytes for f from 0 to 13, from the byte at `at` on; a spare half byte is zero. It answers the place behind.
+// The raster bytes for f, from the byte at `at` on; a spare half byte is zero. It answers the place behind.
 pub fn write_runs(
     b: &[u8],
     w: usize,
     h: usize,
-    f: usize,
+    f: Factor,
     part: &mut Part,
     buf: &mut [u8],
     at: usize,
 ) -> usize
-    requires { (0 < w) × (length b.now ≡ w * h) × (length b.now ≤ 65536) × (f ≤ 13) × First b.now w part.old × (at + length (halves (writings f (counts (rows w h b.now)))) ≤ length buf.old) }
-    ensures value { result ≡ at + length (halves (writings f (counts (rows w h b.now)))) }
-    ensures buf_after { buf.new ≡ take at buf.old ++ (halves (writings f (counts (rows w h b.now))) ++ drop result buf.old) }
+    requires { (0 < w) × (length b.now ≡ w * h) × (length b.now ≤ 65536) × First b.now w part.old × (at + length (halves (writings f.n (counts (rows w h b.now)))) ≤ length buf.old) }
+    ensures value { result ≡ at + length (halves (writings f.n (counts (rows w h b.now)))) }
+    ensures buf_after { buf.new ≡ take at buf.old ++ (halves (writings f.n (counts (rows w h b.now))) ++ drop result buf.old) }
 {
     part.first(b, w);
     write_nybbles(b, w, f, part, buf, 2 * at).div_ceil(2)

@@ -228,8 +228,8 @@ module _ {s : List ℕ} {f : ℕ} {black : Bool} {w h : ℕ} {d₀ d : List ℕ}
               let z2 : next ≡ 2 * length s - length u.rest = cc in
               let z3 : k ≡ n = omega (arith, u.fits, left_small w h st within) in
               subst (λ (k : ℕ). (u : First f w h st (from s at) t.is (run k)) × (next ≡ 2 * length s - length u.rest)) z3 (u, z2)
-          go (fourteen k) u = absurd (let z = sym e ∙ is ∙ ap (to_item s) u.item in let z : ◌≡◌ {A = ℕ} 0 1 = cc in omega arith)
-          go fifteen u = absurd (let z = sym e ∙ is ∙ ap (to_item s) u.item in let z : ◌≡◌ {A = ℕ} 0 1 = cc in omega arith)
+          go (fourteen k) u = absurd (let z = sym e ∙ is ∙ ap (to_item s) u.item in cc)
+          go fifteen u = absurd (let z = sym e ∙ is ∙ ap (to_item s) u.item in cc)
 
       pub run_fits : (st.row * w + st.repeat * w + st.column + n ≤ w * h) × (st.row + st.repeat + (st.column + n) / w ≤ 65536)
       run_fits =
@@ -254,7 +254,7 @@ module _ {s : List ℕ} {f : ℕ} {black : Bool} {w h : ℕ} {d₀ d : List ℕ}
       left_repeat st' q = go first.0 first.1
         where
           go : (i : Item) → First f w h st (from s at) t.is i → (at < next) × LeftIn s f black w h d₀ d next st'
-          go (run k) u = absurd (let z = sym e ∙ is ∙ ap (to_item s) u.item in let z : ◌≡◌ {A = ℕ} 0 1 = cc in omega arith)
+          go (run k) u = absurd (let z = sym e ∙ is ∙ ap (to_item s) u.item in cc)
           go (fourteen k) u =
               let z = sym e ∙ is ∙ ap (to_item s) u.item in
               let z1 : n ≡ min k cap = cc in
@@ -273,9 +273,9 @@ module _ {s : List ℕ} {f : ℕ} {black : Bool} {w h : ℕ} {d₀ d : List ℕ}
     left_sound x e = go first.0 first.1
       where
         go : (i : Item) → First f w h st (from s at) t.is i → ⊥
-        go (run k) u = let z = sym e ∙ is ∙ ap (to_item s) u.item in let z : ◌≡◌ {A = ℕ} 0 1 = cc in omega arith
-        go (fourteen k) u = let z = sym e ∙ is ∙ ap (to_item s) u.item in let z : ◌≡◌ {A = ℕ} 0 1 = cc in omega arith
-        go fifteen u = let z = sym e ∙ is ∙ ap (to_item s) u.item in let z : ◌≡◌ {A = ℕ} 0 1 = cc in omega arith
+        go (run k) u = let z = sym e ∙ is ∙ ap (to_item s) u.item in cc
+        go (fourteen k) u = let z = sym e ∙ is ∙ ap (to_item s) u.item in cc
+        go fifteen u = let z = sym e ∙ is ∙ ap (to_item s) u.item in cc
 
 -- The end.
 

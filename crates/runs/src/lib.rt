@@ -17,7 +17,6 @@ fn draw_run(buf: &mut [u8], w: usize, state: State, n: usize)
     requires { (state.column < w) × (state.row * w + state.repeat * w + state.column + n ≤ length buf.old) }
     ensures { buf.new ≡ with_run w n (colour state.black) (plain state) buf.old }
 {
-    let repeat = state.repeat;
     let at = state.row * w + state.column;
     let room = w - state.column;
     let v = u8::from(state.black);
@@ -26,7 +25,7 @@ fn draw_run(buf: &mut [u8], w: usize, state: State, n: usize)
         return;
     }
     fill::fill_run(buf, at, room, v);
-    let next = fill::copy_rows(buf, at + room, w, repeat);
+    let next = fill::copy_rows(buf, at + room, w, state.repeat);
     fill::fill_run(buf, next, n - room, v);
 }
 

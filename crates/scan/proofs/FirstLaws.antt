@@ -12,14 +12,7 @@ pub record Below (P : ℕ → Type 0) (n i : ℕ) : Type 0 where
 abbrev pub Shifted : (ℕ → Type 0) → ℕ → (ℕ → Type 0) → Type 0
 Shifted P i Q = (j : ℕ) → (Q j → P (i + j)) × (P (i + j) → Q j)
 
--- Before the first place.
-pub below_none : (P : ℕ → Type 0) (n : ℕ) → Below P n 0
-below_none P n = record { most = omega arith; all = λ j h. absurd (omega arith) }
-
--- One place more, or several.
-pub below_one : (P : ℕ → Type 0) (n i : ℕ) → Below P n i → i < n → P i → Below P n (i + 1)
-below_one P n i h l p = record { most = omega arith; all = below_more P i h.all p }
-
+-- Several places more.
 below_all : (P : ℕ → Type 0) (n i k : ℕ) → Below P n i → ((j : ℕ) → j < k → P (i + j)) → (j : ℕ) → j < i + k → P j
 below_all P n i k h f j l = elim (dec_le i j) [
   | yes g ↦ (let e : i + (j - i) ≡ j = omega arith in subst P e (f (j - i) (omega arith)))
@@ -31,13 +24,6 @@ below_first P Q n i k s h f l = record { most = l; all = below_all P n i k h (λ
 
 pub below_fewer : (P : ℕ → Type 0) (n i k : ℕ) → Below P n i → k ≤ i → Below P n k
 below_fewer P n i k h l = record { most = omega (arith, h.most); all = λ j g. h.all j (omega arith) }
-
--- The first place is found at i, or is none.
-pub first_here : (P : ℕ → Type 0) (n i : ℕ) → Below P n i → (P i → ⊥) → First P n i
-first_here P n i h s = record { most = h.most; below = h.all; stop = λ l. s }
-
-pub first_none : (P : ℕ → Type 0) (n i : ℕ) → Below P n i → n ≤ i → First P n n
-first_none P n i h l = record { most = omega arith; below = λ j g. h.all j (omega arith); stop = λ g. absurd (omega arith) }
 
 -- Where P holds below i, the first place is the first from i on.
 pub first_from : (P Q : ℕ → Type 0) (n i m k : ℕ) → Shifted P i Q → Below P n i → First Q m k → i + m ≤ n → (m ≤ k → i + m ≡ n) → First P n (i + k)

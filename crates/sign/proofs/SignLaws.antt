@@ -50,13 +50,3 @@ in_bits_lem w x z f e = ap (λ (y : ℤ). to_z w (of_z w y)) e ∙ to_z-of_z {w 
 -- also as the machine reads it back.
 pub fewer : (w : Width) {x : ℤ} (z : ℤ) → SFits w z → mag z < 9223372036854775808 → x ≡ at64 z → to_z w (of_z w x) ≡ z
 fewer w {x} z f l e = in_bits_lem w x z f (e ∙ reads_back z l)
-
--- In 64 bits again.
-
-module _ (w : Width) (x : ℤ) (f : SFits w x) (l : mag x < 9223372036854775808) where
-  pub wider_fits : SFits w64 (to_z w (of_z w x))
-  wider_fits = subst (SFits w64) (sym (to_z-of_z {w = w} f)) (record { sfits = l })
-
-  -- It is the same number again.
-  pub wider : at64 (to_z w (of_z w x)) ≡ x
-  wider = ap at64 (to_z-of_z {w = w} f) ∙ reads_back x l

@@ -20,28 +20,6 @@ use Rattle.size.specs.Sizes.{Sizes, Sized, Best, IsChosen}
 
 -- The least.
 
--- The first place is the least of one; the next takes its place, or not.
-pub best_start : (t : List ℕ) → Best t 1 0
-best_start t = record {
-  inside = omega arith;
-  least = λ k l. let e : 0 ≡ k = omega arith in subst (λ (j : ℕ). get_or t 0 0 ≤ get_or t j 0) e (omega arith);
-  last = λ k l m. absurd (omega arith);
-}
-
-pub best_keep : {t : List ℕ} {f b : ℕ} → Best t f b → get_or t b 0 < get_or t f 0 → Best t (f + 1) b
-best_keep {t} {f} {b} r h = record {
-  inside = omega (arith, r.inside);
-  least = below_more (λ (k : ℕ). get_or t b 0 ≤ get_or t k 0) f r.least (omega arith);
-  last = λ k l m. below_more (λ (j : ℕ). b < j → get_or t b 0 < get_or t j 0) f (λ j p q. r.last j q p) (λ _. h) k m l;
-}
-
-pub best_take : {t : List ℕ} {f b : ℕ} → Best t f b → get_or t f 0 ≤ get_or t b 0 → Best t (f + 1) f
-best_take {t} {f} {b} r h = record {
-  inside = omega arith;
-  least = below_more (λ (k : ℕ). get_or t f 0 ≤ get_or t k 0) f (λ k l. omega (arith, r.least k l)) (omega arith);
-  last = λ k l m. absurd (omega arith);
-}
-
 -- The place of the least total is the f with fewest nybbles.
 best_fewest : (is : List Item) {t : List ℕ} {f : ℕ} → Sizes is t → Best t 14 f → f ≡ fewest is
 best_fewest is {t} {f} s b =

@@ -33,10 +33,6 @@ pub record Half (t : List ℕ) (P : ℕ → ℕ → Type 0) (r : List ℕ) (f : 
   pub done : (j : ℕ) → j < f → More t P r j
   pub rest : (j : ℕ) → f ≤ j → get_or r j 0 ≡ get_or t j 0
 
--- None has grown.
-pub half_start : (t : List ℕ) (P : ℕ → ℕ → Type 0) → length t ≡ 14 → Half t P t 0
-half_start t P l = record { long = l; done = λ j h. absurd (omega arith); rest = λ j h. refl }
-
 -- The total for f grows.
 pub half_more : {t : List ℕ} {P : ℕ → ℕ → Type 0} {r : List ℕ} {f : ℕ} (v k : ℕ) → Half t P r f → f < 14 → P f k → v ≡ get_or r f 0 + k → Half t P (set r f v) (f + 1)
 half_more {t} {P} {r} {f} v k h i p q =
@@ -49,17 +45,9 @@ half_more {t} {P} {r} {f} v k h i p q =
       rest = λ j l. get_or-set_other r f j v 0 (λ z. omega arith) ∙ h.rest j (omega arith);
     }
 
--- All fourteen have grown.
-pub half_end : {t : List ℕ} {P : ℕ → ℕ → Type 0} {r : List ℕ} {f : ℕ} → Half t P r f → 14 ≤ f → Added t P r
-half_end h l = record { long = h.long; each = λ j i. h.done j (omega arith) }
-
 -- Each has grown by as much as g says.
 pub added_grown : {t : List ℕ} {P : ℕ → ℕ → Type 0} {r : List ℕ} (g : ℕ → ℕ) → Added t P r → ((f n : ℕ) → f < 14 → P f n → n ≡ g f) → Grown t g r
 added_grown g a e = record { long = a.long; is = λ f l. let m = a.each f l in omega (arith, m.is, e f m.more l m.says) }
-
--- A total that has not grown yet is small.
-pub half_small : {n : ℕ} {t : List ℕ} {P : ℕ → ℕ → Type 0} {r : List ℕ} {f : ℕ} → Half t P r f → Totals n t → f < 14 → get_or r f 0 ≤ n
-half_small {f} h a l = omega (arith, h.rest f (omega arith), a.small f l)
 
 -- Small totals are within a larger bound, and so are those that grow by little.
 pub room : {m n : ℕ} {t : List ℕ} → m ≤ n → Totals m t → Totals n t
@@ -158,34 +146,11 @@ pub record Summed (b : List ℕ) (w : ℕ) (several : Bool) (t : List ℕ) (p : 
   pub small : (f : ℕ) → f < 14 → get_or t f 0 ≤ 19 * from.at
   pub whole : several ≡ false → (p.n < 512) × Kept b w begin p
 
-zeros : (n f : ℕ) → get_or {A = ℕ} (replicate n 0) f 0 ≡ 0
-zeros zero f = refl
-zeros (suc n) zero = refl
-zeros (suc n) (suc f) = zeros n f
-
 -- A part that is not full has room.
 pub not_full : {full : Bool} {n : ℕ} → (IsTrue full ↔ (512 ≤ n)) → full ≡ false → n < 512
 not_full {full} e h = lt_of_not-le (λ l. let x : full ≡ true = e.1 l in cc)
 
--- Before the first part.
-pub sum_start : {b : List ℕ} {w : ℕ} (p : Part) {several : Bool} → Kept b w begin p → (IsTrue several ↔ (512 ≤ p.n)) → Summed b w several (replicate 14 0) p
-sum_start p g e = record {
-  from = begin;
-  part = g;
-  long = refl;
-  sum = λ f i. omega (arith, zeros 14 f);
-  small = λ f i. omega (arith, zeros 14 f);
-  whole = λ h. (not_full e h, g);
-}
-
 module _ {b : List ℕ} {w : ℕ} {several : Bool} {t : List ℕ} (p : Part) (s : Summed b w several t p) where
-  -- The place where the part begins, and what a part asks.
-  from_most : s.from.at + p.n ≤ 65536
-  from_most = let i = s.part.walked.inside in omega (arith, s.part.walked.further, at_most i, i.small)
-
-  pub sum_asks : length p.runs ≡ 512 → Totals 1500000 t × (length (taken p) ≤ 512) × All Small (taken p)
-  sum_asks l = (record { long = s.long; small = λ f h. omega (arith, s.small f h, from_most) }, omega (arith, length-take p.n p.runs), s.part.walked.runs)
-
   module _ {u : List ℕ} (a : Grown t (nybble_count (kept (taken p))) u) where
     -- The part is taken: what is left is left behind it.
     counted_on : (f : ℕ) → f < 14 → get_or u f 0 + nybble_count (items_left b w p.cursor) f ≡ nybble_count (items_left b w begin) f

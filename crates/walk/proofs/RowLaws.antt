@@ -24,7 +24,7 @@ rows_are b w at k p e =
     let z : length b - at ≡ k * w = omega arith in
     ap (λ (n : ℕ). rows w n (drop at b)) (ap (λ (n : ℕ). n / w) z ∙ mul-div_cancel k p)
 
--- A row that begins is whole, and one row fewer is left behind it.
+-- Behind a row that begins, one row fewer is left.
 pub row_off : (w at k l : ℕ) → at + k * w ≡ l → at < l → at + w + (k - 1) * w ≡ l
 row_off w at zero l e h = absurd (omega arith)
 row_off w at (suc k) l e h = let z : suc k - 1 ≡ k = omega arith in rw z (omega arith)
@@ -103,9 +103,6 @@ pub record Equal (b : List ℕ) (w at next n : ℕ) : Type 0 where
   pub more_rows : ℕ
   pub whole : next + more_rows * w ≡ length b
 
-pub row_whole : {b : List ℕ} {w at : ℕ} → RowAt b w at → at + w ≤ length b
-row_whole {b} {w} {at} r = omega (arith, row_off w at r.more_rows (length b) r.whole r.more)
-
 -- Before the first; a row more; a row that differs; no row left.
 pub equal_start : {b : List ℕ} {w at : ℕ} → RowAt b w at → Equal b w at (at + w) 0
 equal_start {b} {w} {at} r = record {
@@ -116,9 +113,6 @@ equal_start {b} {w} {at} r = record {
   more_rows = r.more_rows - 1;
   whole = row_off w at r.more_rows (length b) r.whole r.more;
 }
-
-pub equal_room : {b : List ℕ} {w at next n : ℕ} → Equal b w at next n → next < length b → (at ≤ next) × (next + w ≤ length b)
-equal_room {b} {w} {at} {next} e h = (omega (arith, e.after), omega (arith, row_off w next e.more_rows (length b) e.whole h))
 
 pub equal_more : {b : List ℕ} {w at next n : ℕ} → Equal b w at next n → next < length b → same (take w (drop at b)) (take w (drop next b)) ≡ true → mixed (take w (drop at b)) ≡ true → Equal b w at (next + w) (n + 1)
 equal_more {b} {w} {at} {next} {n} e h s m =

@@ -95,13 +95,6 @@ at_most i = omega (arith, i.in_row, row_in i)
 running_none : (b : List ℕ) (w x : ℕ) (c : Cursor) → Inside b w c → Running b w x 0 0 c 0 0 c
 running_none b w x c i = record { is = refl; inside = i; before = λ h. absurd (omega arith); none = λ h. refl; many = omega arith; few = omega arith; further = omega arith }
 
-pub waiting_start : {b : List ℕ} {w x k m : ℕ} {c : Cursor} → Open b w x k m c → Waiting b w x k m c k m c
-waiting_start o = record {
-  run = record { is = refl; inside = o.inside; before = o.before; none = o.none; many = o.many; few = o.few; further = omega arith };
-  full = o.full;
-  next = o.next;
-}
-
 running_entered : {b : List ℕ} {w x k m n r : ℕ} {c d e : Cursor} → Running b w x k m c n r d → Entered b w d e → Running b w x k m c n r e
 running_entered {b} {w} {x} {k} {m} {n} {r} {c} {d} {e} g t =
     let l : d.at ≤ e.at = omega (arith, g.inside.in_row, g.inside.after, t.at) in

@@ -57,6 +57,7 @@ fn same_rows(b: &[u8], x: usize, y: usize, w: usize) -> bool
 }
 
 // The rows under the one at `at` that are removed and counted as its repeats.
+// Kept: a while, since the place where it stops is part of the answer.
 fn repeats_of(b: &[u8], w: usize, at: usize) -> Removed
     requires { RowAt b.now w at }
     ensures { Removal b.now w at result.next result.n }

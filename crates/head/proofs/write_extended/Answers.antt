@@ -16,7 +16,7 @@ narrow_values-vs-requires c =
 pub put_head-requires : goal.put_head-requires
 put_head-requires c =
     let a = c.args in (
-      c.requires.0.room,
+      rw c.narrow_values-vs.ensures c.requires.0.room,
       c.flag_of-flag.ensures.1,
       rw c.narrow_values-vs.ensures (extended_ok a.buf.now a.f a.n a.dm.0 (said a.m) c.requires.1 c.requires.0).fit,
     )

@@ -1,5 +1,4 @@
 use mir.Syntax.{w8}
-use mathlib.Core.Path.{refl}
 use native.Mathlib.Omega.{arith}
 use Rattle.measures.specs.Said.{said}
 use Rattle.head.proofs.ValueLaws.{offset}
@@ -30,5 +29,4 @@ put_short-requires c =
 pub returns : goal.returns
 returns c =
     let a = c.args in
-    wrote_short a.f a.black a.n (said a.m) a.buf.now _ a.dm.0 c.requires.1 c.requires.0
-    (rw c.narrow_values-vs.ensures refl) c.flag_of-flag.ensures.0 c.put_short.ensures
+    wrote_short a.f a.black a.n (said a.m) a.buf.now _ a.dm.0 c.requires.1 c.requires.0 c.flag_of-flag.ensures.0 (rw c.narrow_values-vs.ensures at c.put_short.ensures)

@@ -4,9 +4,9 @@ use Rattle.list_lines.proofs.print_packets.Goals as goal
 
 pub loop-e-smaller : goal.loop-e-smaller
 loop-e-smaller g c =
-    let t = comes_on _ _ _ c.in-Packet.e _ c.loop-e.invariant c.next_packet-n.ensures c.in-Packet.is in
+    let t = comes_on _ _ _ c.in-Some.e _ c.loop-e.invariant c.next_packet.ensures c.in-Some.is in
     omega (arith, t.0, t.1)
 
 pub loop-e-preserved : goal.loop-e-preserved
 loop-e-preserved g c =
-    (comes_on _ _ _ c.in-Packet.e _ c.loop-e.invariant c.next_packet-n.ensures c.in-Packet.is).2
+    (comes_on _ _ _ c.in-Some.e _ c.loop-e.invariant c.next_packet.ensures c.in-Some.is).2

@@ -9,12 +9,12 @@ returns-then-end-at c = short_past _ _ _ (omega arith)
 pub returns-then-a-eq0 : goal.returns-then-a-eq0
 returns-then-a-eq0 c = short_zero _ _ _ (omega arith) c.nybble-a.result c.nybble-a.ensures.is (omega arith)
 
-pub returns-else-a-eq0 : goal.returns-else-a-eq0
-returns-else-a-eq0 c =
-    short_one _ _ _ (omega arith) c.nybble-a.result c.nybble-a.ensures.is _ (omega arith) (omega arith) (omega arith) refl
-
 pub returns-then-a-gt13 : goal.returns-then-a-gt13
 returns-then-a-gt13 c = short_mark _ _ _ (omega arith) c.nybble-a.result c.nybble-a.ensures.is (omega arith) (omega arith)
+
+pub returns-then-a-f : goal.returns-then-a-f
+returns-then-a-f c =
+    short_one _ _ _ (omega arith) c.nybble-a.result c.nybble-a.ensures.is _ (omega arith) (omega arith) (omega arith) refl
 
 pub returns-then-end-next : goal.returns-then-end-next
 returns-then-end-next c = short_alone _ _ _ (omega arith) c.nybble-a.result c.nybble-a.ensures.is (omega arith) (omega arith)

@@ -1,9 +1,5 @@
-use Prim.Native.Nat.{◌*◌}
 use mathlib.Core.Path.{◌≡◌, refl, sym, subst}
-use mathlib.Core.List.{◌++◌}
-use lib.ListN.{drop}
 use Rattle.format.specs.Reading.{ReadWhole}
-use Rattle.format.specs.Drawing.{raster_pixels}
 use native.Mathlib.Omega.{arith}
 use Rattle.format.proofs.FillLaws.{limited}
 use Rattle.raster.proofs.KindLaws.{no_pixels, bits_enough, bit_pixels}
@@ -27,7 +23,3 @@ pub draw_runs-requires : goal.draw_runs-requires
 draw_runs-requires c =
     let z = limited c.args.w c.args.h c.requires.1 (λ e. omega arith) in
     (omega arith, z.high, z.small, search rules, subst (λ f. ReadWhole f c.args.w c.args.h c.args.s.now) (sym c.in-Some.ensures.some) c.requires.3)
-
-pub returns-in-Some : goal.returns-in-Some
-returns-in-Some c =
-    subst (λ f. c.draw_runs.new.buf ≡ raster_pixels f c.args.black c.args.w c.args.h c.args.s.now ++ drop (c.args.w * c.args.h) c.args.buf.now) c.in-Some.ensures.some c.draw_runs.ensures

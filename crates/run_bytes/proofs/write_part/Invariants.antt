@@ -5,4 +5,4 @@ use Rattle.run_bytes.specs.Put.{Put}
 use Rattle.run_bytes.proofs.write_part.Given as goal
 
 abbrev pub invariant-loop-r : goal.invariant-loop-r
-invariant-loop-r l = Put l.initial.buf l.i (writings l.f (kept (take l.r-index l.runs))) l.to l.buf
+invariant-loop-r l = Put l.initial.buf l.i (writings l.f.n (kept (take l.r-index l.runs))) l.to l.buf
