@@ -16,7 +16,7 @@ use Rattle.format.specs.Decoding.{number, value_of, read_fields}
 use Rattle.format.specs.Pieces as F
 use Rattle.format.specs.Pieces.{preamble_kinds, preamble_values, preamble_bytes, short, extended, long}
 use Rattle.format.specs.Cut.{flat, Parts, chars, join, Cut}
-use Rattle.format.specs.Verdict.{verdict, check}
+use Rattle.format.specs.Verdict.{form_of, verdict, check}
 use Rattle.format.specs.Listing.{heading_of, entries_of, heading_answer}
 use Rattle.format.proofs.FieldLaws.{read_fields_lem}
 use Rattle.format.proofs.CutLaws.{one_cut}
@@ -34,8 +34,9 @@ use Rattle.packet.specs.declared.Outline.{Outline}
 use Rattle.measures.specs.Said.{IsSaid}
 use Rattle.measures.specs.declared.Measures.{Measures}
 use Rattle.measures.proofs.StandLaws.{flag_told}
-use Rattle.listing.specs.Listed.{in_numbers, Counted, IsHeading, Ahead, Starts, form_is, IsForm, IsEntry}
-use Rattle.listing.specs.declared.Form.{Form}
+use Rattle.listing.specs.Listed.{in_numbers, Counted, IsHeading, Ahead, Starts, IsEntry}
+use Rattle.packet.specs.declared.Form.{Form}
+use Rattle.packet.specs.Outlines.{form_is}
 use Rattle.listing.specs.declared.Heading.{Heading}
 
 -- The preamble.
@@ -135,7 +136,7 @@ refused_listed s x h = refused_told s (verdict s) (number_of x.refusal) x.place 
 
 -- An entry.
 
-pub entry_is_lem : (s : List ℕ) → Bytes s → (at : ℕ) (x : Outline) → StandsAt s at x → (k : Form) (m : Measures) → IsForm (get_or s at 0) k → IsSaid s at m
+pub entry_is_lem : (s : List ℕ) → Bytes s → (at : ℕ) (x : Outline) → StandsAt s at x → (k : Form) (m : Measures) → form_is k ≡ form_of (get_or s at 0) → IsSaid s at m
     → IsEntry s at (record { at = at; form = k; f = x.f; black = x.black; m = m })
 entry_is_lem s b at x t k m f i p rest e =
     let q = sym t.here ∙ e in

@@ -20,9 +20,10 @@ use Rattle.format.specs.Listing.{heading_of, entries_of, heading_answer}
 use Rattle.format.proofs.PieceLaws.{step_piece}
 use Rattle.format.proofs.ListTheorems.{heading_exactly, heading_refused}
 use Rattle.measures.proofs.SaidLaws.{one_measures}
-use Rattle.listing.specs.Listed.{Listed, heading_is, in_numbers, Ahead, Between, Starts, Coming, Next, Comes, IsNext, form_is, entry_is}
-use Rattle.listing.specs.declared.Form.{Form}
-use Rattle.listing.specs.declared.Form.TheVariants.{Short, Extended, Long}
+use Rattle.packet.specs.Outlines.{form_is}
+use Rattle.listing.specs.Listed.{Listed, heading_is, in_numbers, Ahead, Between, Starts, Coming, Next, Comes, IsNext, entry_is}
+use Rattle.packet.specs.declared.Form.{Form}
+use Rattle.packet.specs.declared.Form.TheVariants.{Short, Extended, Long}
 use Rattle.listing.specs.declared.Heading.{Heading}
 use Rattle.listing.specs.declared.Entry.{Entry}
 

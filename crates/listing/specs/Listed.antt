@@ -4,16 +4,15 @@ use Rattle.std.specs.declared.option.Option.{Option}
 use Rattle.std.specs.declared.result.Result.{Result}
 use Rattle.format.specs.Refusals.{Told, ok}
 use Rattle.format.specs.Pieces as F
-use Rattle.format.specs.Pieces.{preamble_bytes, short, extended, long, Piece, packet, bytes_of}
+use Rattle.format.specs.Pieces.{preamble_bytes, Piece, packet, bytes_of}
 use Rattle.format.specs.Cut.{flat, Parts, chars, Cut}
-use Rattle.format.specs.Verdict.{piece, step, form_of}
+use Rattle.format.specs.Verdict.{piece, step}
 use Rattle.format.specs.Listing as L
 use Rattle.format.specs.Listing.{heading_of, entry_of, entries, entries_of}
 use Rattle.refusals.specs.Answers.{numbers}
 use Rattle.refusals.specs.declared.Refused.{Refused}
+use Rattle.packet.specs.Outlines.{form_is}
 use Rattle.measures.specs.Said.{said}
-use Rattle.listing.specs.declared.Form.{Form}
-use Rattle.listing.specs.declared.Form.TheVariants.{Short, Extended, Long}
 use Rattle.listing.specs.declared.Heading.{Heading}
 use Rattle.listing.specs.declared.Entry.{Entry}
 
@@ -39,12 +38,6 @@ abbrev pub IsHeading : List ℕ → Heading → Type 0
 IsHeading s r = (x : Parts) → Cut s x → heading_is r ≡ heading_of s x
 
 -- The packets.
-
--- The code's form as the definitions'.
-abbrev pub form_is : Form → F.Form
-form_is Short = short
-form_is Extended = extended
-form_is Long = long
 
 -- The code's entry as the definitions'.
 abbrev pub entry_is : Entry → L.Entry
@@ -95,10 +88,6 @@ abbrev pub IsNext : List ℕ → ℕ → Next → Type 0
 IsNext s at r = (es : List L.Entry) → Ahead s at es → Comes s at es r
 
 -- The inner functions.
-
--- The form that a flag picks.
-abbrev pub IsForm : ℕ → Form → Type 0
-IsForm b r = form_is r ≡ form_of b
 
 -- The entry of the packet at a place.
 abbrev pub IsEntry : List ℕ → ℕ → Entry → Type 0

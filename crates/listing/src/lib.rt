@@ -5,31 +5,11 @@ ghost use Rattle.std.specs.Prelude.{◌≡◌};
 ghost use Rattle.format.specs.Refusals.{told};
 ghost use Rattle.format.specs.Listing.{heading_answer};
 ghost use Rattle.packet.specs.Standing.{StandsAt};
-ghost use Rattle.listing.specs.Listed.{in_numbers, Counted, IsHeading, Starts, IsForm, IsEntry, Between, IsNext};
+ghost use Rattle.listing.specs.Listed.{in_numbers, Counted, IsHeading, Starts, IsEntry, Between, IsNext};
 
 use measures::Measures;
-use packet::{Outline, Piece};
+use packet::{Form, Outline, Piece};
 use refusals::Refused;
-use std::fmt;
-
-// The form of a packet.
-#[derive(Clone, Copy, Debug, PartialEq, Eq)]
-pub enum Form {
-    Short,
-    Extended,
-    Long,
-}
-
-// Its word in a listing.
-impl fmt::Display for Form {
-    fn fmt<W: fmt::Write>(&self, f: &mut fmt::Formatter<W>) -> fmt::Result {
-        f.write_str(match self {
-            Form::Short => "short",
-            Form::Extended => "extended",
-            Form::Long => "long",
-        })
-    }
-}
 
 // The file's length, the preamble's numbers, and the number of packets.
 #[derive(Clone, Copy, Debug, PartialEq, Eq)]
@@ -81,24 +61,12 @@ pub fn list_font(font: &[u8]) -> Result<(Heading, usize), Refused>
     Ok((heading_of(font, n), find::first_place(font)))
 }
 
-// The form that a flag's lower bits pick.
-#[tactic(auto, unfolding(format::specs::Verdict::form_of))]
-fn form_of(flag: u8) -> Form
-    ensures { IsForm flag result }
-{
-    match flag % 8 {
-        0..=3 => Form::Short,
-        4..=6 => Form::Extended,
-        _ => Form::Long,
-    }
-}
-
 // The packet of an outline whose flag stands at `at`.
 fn entry_at(font: &[u8], at: usize, x: Outline) -> Entry
     requires { StandsAt font.now at x }
     ensures { IsEntry font.now at result }
 {
-    let form = form_of(font[at]);
+    let form = Form::of(usize::from(font[at]));
     let m = measures::measures_at(font, at, x);
     Entry {
         at,

@@ -1,5 +1,5 @@
 -- The measures of a packet that stands in a font are those that its outline and the fields behind its flag say. Assumes nothing.
-use Prim.Native.Nat.{ℕ, suc, ◌+◌, ◌%◌, ◌≤◌, ◌<◌}
+use Prim.Native.Nat.{ℕ, suc, ◌+◌, ◌≤◌, ◌<◌}
 use mathlib.Core.Path.{◌≡◌, refl, sym, ap, ◌∙◌}
 use mathlib.Core.List.{List, ◌∷◌, ◌++◌, append_assoc}
 use native.Mathlib.Numerals.{add-one}
@@ -13,7 +13,7 @@ use Rattle.format.specs.Pieces.{Form, short, extended, long, Escapement, kinds, 
 use Rattle.format.specs.Verdict.{form_of, header}
 use Rattle.format.proofs.FieldLaws.{length_fields, read_fields_lem}
 use Rattle.format.proofs.FillLaws.{limits_most}
-use Rattle.format.proofs.PieceLaws.{Bits, form_is_lem, fits_fields, flag_form}
+use Rattle.format.proofs.PieceLaws.{fits_fields, flag_form}
 use Rattle.packet.specs.Standing.{StandsAt}
 use Rattle.packet.specs.declared.Outline.{Outline}
 use Rattle.packet.proofs.StandingLaws.{stands_is, stands_found}
@@ -62,11 +62,11 @@ module _ (s : List ℕ) (b : Bytes s) (at : ℕ) (x : Outline) (t : StandsAt s a
   pub flag_told : form_of (get_or s at 0) ≡ t.packet.form
   flag_told = ap form_of fronted.1 ∙ flag_form t.packet (stands_is s b at x t).ok
 
-  form_told : (k : Form) → Bits k (get_or s at 0 % 8) → t.packet.form ≡ k
-  form_told k h = sym flag_told ∙ form_is_lem k (get_or s at 0) h
+  form_told : (k : Form) → k ≡ form_of (get_or s at 0) → t.packet.form ≡ k
+  form_told k h = sym flag_told ∙ sym h
 
   -- Its fields are whole.
-  pub room : (k : Form) → Bits k (get_or s at 0 % 8) → at + 1 + size (kinds k) ≤ length s
+  pub room : (k : Form) → k ≡ form_of (get_or s at 0) → at + 1 + size (kinds k) ≤ length s
   unfolding behind
   room k h =
       let p = t.packet in
@@ -84,7 +84,7 @@ module _ (s : List ℕ) (b : Bytes s) (at : ℕ) (x : Outline) (t : StandsAt s a
       (said_values p.form p.escapement p (packet_length p) x (ap (λ (y : Outline). y.code) t.outline) (ap (λ (y : Outline). y.w) t.outline) (ap (λ (y : Outline). y.h) t.outline))
 
   -- What is said in the form that its flag tells are its measures.
-  pub is_said : (k : Form) (r : Measures) → Bits k (get_or s at 0 % 8) → said r ≡ said_by k x (drop (at + 1) s) → IsSaid s at r
+  pub is_said : (k : Form) (r : Measures) → k ≡ form_of (get_or s at 0) → said r ≡ said_by k x (drop (at + 1) s) → IsSaid s at r
   is_said k r h e p rest q =
       let z : t.packet ≡ p = cc in
       e ∙ ap (λ (j : Form). said_by j x (drop (at + 1) s)) (sym (form_told k h)) ∙ told ∙ ap measures z

@@ -8,7 +8,7 @@ ghost use Rattle.packet.specs.Standing.{StandsAt};
 ghost use Rattle.measures.specs.Said.{said, said_by, Small, IsSaid};
 
 use escapement::{Pixels, Scaled};
-use packet::Outline;
+use packet::{Form, Outline};
 
 // What is said of a character: code, width and height, TFM width, escapements in pixels times 65,536, and the offsets from the upper
 // left pixel to the reference pixel.
@@ -78,9 +78,9 @@ pub fn measures_at(font: &[u8], at: usize, x: Outline) -> Measures
     ensures { IsSaid font.now at result }
 {
     let fields = at + 1;
-    match usize::from(font[at]) % 8 {
-        0..=3 => narrow(font, fields, 1, x),
-        4..=6 => narrow(font, fields, 2, x),
-        _ => long(font, fields, x),
+    match Form::of(usize::from(font[at])) {
+        Form::Short => narrow(font, fields, 1, x),
+        Form::Extended => narrow(font, fields, 2, x),
+        Form::Long => long(font, fields, x),
     }
 }

@@ -1,5 +1,5 @@
 -- The packet that the verdict finds is the one that the checks on numbers give. Assumes nothing.
-use Prim.Native.Nat.{ℕ, zero, suc, ◌+◌, ◌-◌, ◌*◌, ◌%◌, ◌≤◌, ◌<◌}
+use Prim.Native.Nat.{ℕ, zero, suc, ◌+◌, ◌-◌, ◌*◌, ◌≤◌, ◌<◌}
 use mathlib.Core.Path.{◌≡◌, refl, sym, ap, ◌∙◌}
 use mathlib.Core.List.{List}
 use mathlib.Core.Bool.{Bool, true, false, cond}
@@ -14,8 +14,7 @@ use Rattle.format.specs.Refusals.{file_ends, bad_length, outside_limits, bad_cod
 use Rattle.format.specs.Numbers.{signed, size, twos}
 use Rattle.format.specs.Pieces.{Form, short, extended, long, kinds, fixed, packet}
 use Rattle.format.specs.Decoding.{number, value_of, read_fields}
-use Rattle.format.specs.Verdict.{piece, at_least, form_of, Header, header, packet_of, raster_at, packet_at}
-use Rattle.format.proofs.PieceLaws.{Bits, form_is_lem}
+use Rattle.format.specs.Verdict.{piece, at_least, Header, header, packet_of, raster_at, packet_at}
 use Rattle.std.specs.declared.result.Result.{Result}
 use Rattle.std.specs.declared.result.Result.TheVariants.{Ok, Err}
 use Rattle.refusals.specs.declared.Refusal.{Refusal}
@@ -172,9 +171,3 @@ unfolding read_fields fields_at
 long_judged b at n room s x r i h e en er q =
     let j = outlined_judged long b at s i h (value_fits (number 4 (drop at s))).1 in
     q ∙ rw (en, er, e) (sym j)
-
--- The form.
-
--- What flag mod 8 says.
-pub form_outlined : (k : Form) (b at : ℕ) (s : List ℕ) (r : Result Piece Refusal) → Bits k (b % 8) → r ≡ outlined k b at s → r ≡ outlined (form_of b) b at s
-form_outlined k b at s r h e = e ∙ ap (λ (j : Form). outlined j b at s) (sym (form_is_lem k b h))

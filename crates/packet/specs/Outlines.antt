@@ -6,15 +6,23 @@ use Rattle.format.specs.Refusals as R
 use Rattle.format.specs.Refusals.{file_ends, bad_length, outside_limits, bad_code, ok, fault}
 use Rattle.format.specs.Numbers.{twos}
 use Rattle.format.specs.Pieces as F
-use Rattle.format.specs.Pieces.{Form, short, extended, kinds}
+use Rattle.format.specs.Pieces.{Form, short, extended, long, kinds}
 use Rattle.format.specs.Decoding.{read_fields}
 use Rattle.format.specs.Verdict.{Front, piece, last, Header, header, packet_at}
 use Rattle.refusals.specs.Names.{coded}
 use Rattle.refusals.specs.declared.Refusal.{Refusal}
+use Rattle.packet.specs.declared.Form as D
+use Rattle.packet.specs.declared.Form.TheVariants.{Short, Extended, Long}
 use Rattle.packet.specs.declared.Outline.{Outline}
 use Rattle.packet.specs.declared.Fields.{Fields}
 use Rattle.packet.specs.declared.Piece.{Piece}
 use Rattle.packet.specs.declared.Piece.TheVariants.{Packet, Command, Last}
+
+-- The code's form as the definitions'.
+abbrev pub form_is : D.Form → Form
+form_is Short = short
+form_is Extended = extended
+form_is Long = long
 
 -- A piece.
 

@@ -5,9 +5,43 @@ ghost use Rattle.std.specs.Prelude.{◌+◌, ◌*◌, ◌≤◌, ◌<◌, ◌≡
 ghost use Rattle.format.specs.Limits.{in_limits};
 ghost use Rattle.format.specs.Pieces.{long};
 ghost use Rattle.format.specs.Verdict.{form_of};
-ghost use Rattle.packet.specs.Outlines.{narrow_form, fields_at, judged_as, outlined};
+ghost use Rattle.packet.specs.Outlines.{form_is, narrow_form, fields_at, judged_as, outlined};
 
 use refusals::Refusal;
+use std::fmt;
+
+// The form of a packet.
+#[derive(Clone, Copy, Debug, PartialEq, Eq)]
+pub enum Form {
+    Short,
+    Extended,
+    Long,
+}
+
+impl Form {
+    // The form that a flag's lower bits pick.
+    #[tactic(auto, unfolding(format::specs::Verdict::form_of))]
+    pub fn of(flag: usize) -> Form
+        ensures { form_is result ≡ form_of flag }
+    {
+        match flag % 8 {
+            0..=3 => Form::Short,
+            4..=6 => Form::Extended,
+            _ => Form::Long,
+        }
+    }
+}
+
+// Its word in a listing.
+impl fmt::Display for Form {
+    fn fmt<W: fmt::Write>(&self, f: &mut fmt::Formatter<W>) -> fmt::Result {
+        f.write_str(match self {
+            Form::Short => "short",
+            Form::Extended => "extended",
+            Form::Long => "long",
+        })
+    }
+}
 
 // What a packet is without its measures: f and the black bit, the code, the width and height, where its raster begins, and where
 // the packet ends.
@@ -144,12 +178,9 @@ pub fn packet_at(s: &[u8], at: usize, b: usize) -> Result<Piece, Refusal>
     requires { at ≤ length s.now }
     ensures { result ≡ outlined (form_of b) b at s.now }
 {
-    let low = b % 8;
-    if low < 4 {
-        return narrow(s, at, b, 1);
+    match Form::of(b) {
+        Form::Short => narrow(s, at, b, 1),
+        Form::Extended => narrow(s, at, b, 2),
+        Form::Long => long(s, at, b),
     }
-    if low < 7 {
-        return narrow(s, at, b, 2);
-    }
-    long(s, at, b)
 }

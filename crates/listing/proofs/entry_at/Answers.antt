@@ -7,4 +7,5 @@ pub bounds-font-at : goal.bounds-font-at
 bounds-font-at c = inside _ (bytes_fit _ c.type_inv.font) _ _ c.requires
 
 pub returns : goal.returns
-returns c = entry_is_lem _ (bytes_fit _ c.type_inv.font) _ _ c.requires c.form_of-form.result _ c.form_of-form.ensures c.measures_at-m.ensures
+returns c =
+    entry_is_lem _ (bytes_fit _ c.type_inv.font) _ _ c.requires c.of-form.result _ (rw c.from.ensures at c.of-form.ensures) c.measures_at-m.ensures

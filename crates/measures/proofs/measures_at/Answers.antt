@@ -13,23 +13,23 @@ overflow_add-fields c = omega (arith, inside _ (bytes_fit _ c.type_inv.font) _ _
 pub narrow-requires : goal.narrow-requires
 narrow-requires c =
     let b = bytes_fit _ c.type_inv.font in
-    (room _ b _ _ c.requires short (omega arith), omega arith, omega arith, small _ b _ _ c.requires)
+    (room _ b _ _ c.requires short (rw c.from.ensures at c.in-Short.ensures), omega arith, omega arith, small _ b _ _ c.requires)
 
-pub narrow-requires-in-4-to-6 : goal.narrow-requires-in-4-to-6
-narrow-requires-in-4-to-6 c =
+pub narrow-requires-in-Extended : goal.narrow-requires-in-Extended
+narrow-requires-in-Extended c =
     let b = bytes_fit _ c.type_inv.font in
-    (room _ b _ _ c.requires extended (omega arith, omega arith), omega arith, omega arith, small _ b _ _ c.requires)
+    (room _ b _ _ c.requires extended (rw c.from.ensures at c.in-Extended.ensures), omega arith, omega arith, small _ b _ _ c.requires)
 
 pub long-requires : goal.long-requires
 long-requires c =
     let b = bytes_fit _ c.type_inv.font in
-    (room _ b _ _ c.requires long (omega arith), small _ b _ _ c.requires)
+    (room _ b _ _ c.requires long (rw c.from.ensures at c.in-Long.ensures), small _ b _ _ c.requires)
 
-pub returns-in-0-to-3 : goal.returns-in-0-to-3
-returns-in-0-to-3 c = is_said _ (bytes_fit _ c.type_inv.font) _ _ c.requires short _ (omega arith) c.narrow.ensures
+pub returns-in-Short : goal.returns-in-Short
+returns-in-Short c = is_said _ (bytes_fit _ c.type_inv.font) _ _ c.requires short _ (rw c.from.ensures at c.in-Short.ensures) c.narrow.ensures
 
-pub returns-in-4-to-6 : goal.returns-in-4-to-6
-returns-in-4-to-6 c = is_said _ (bytes_fit _ c.type_inv.font) _ _ c.requires extended _ (omega arith, omega arith) c.narrow-in-4-to-6.ensures
+pub returns-in-Extended : goal.returns-in-Extended
+returns-in-Extended c = is_said _ (bytes_fit _ c.type_inv.font) _ _ c.requires extended _ (rw c.from.ensures at c.in-Extended.ensures) c.narrow-in-Extended.ensures
 
-pub returns-in_default : goal.returns-in_default
-returns-in_default c = is_said _ (bytes_fit _ c.type_inv.font) _ _ c.requires long _ (omega arith) c.long.ensures
+pub returns-in-Long : goal.returns-in-Long
+returns-in-Long c = is_said _ (bytes_fit _ c.type_inv.font) _ _ c.requires long _ (rw c.from.ensures at c.in-Long.ensures) c.long.ensures
