@@ -13,6 +13,7 @@ pub fn empty<const N: usize>() -> [u8; N]
 }
 
 // Where the bytes behind the head of so many bytes at `at` begin and end, if they are not cut off.
+#[tactic(auto, using(crate::proofs::BlockLaws::head_cut, crate::proofs::BlockLaws::bytes_cut, crate::proofs::BlockLaws::bytes_whole))]
 pub fn block_at(s: &[u8], at: usize, head: usize) -> Option<(usize, usize)>
     requires { (at ≤ length s.now) × (4 ≤ head) }
     ensures is { result ≡ block_at s.now at head }

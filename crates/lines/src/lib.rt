@@ -68,6 +68,7 @@ pub fn read_full<R: Read>(reader: &mut R, buf: &mut [u8]) -> (usize, io::Result<
     ensures end { OnOk result.1 (result.0 < length buf.new → IsAtEnd (R.remaining reader.new)) }
 {
     let mut n: usize = 0;
+    // Kept: it counts what came, and a turn's step is what the reader gave.
     while n < buf.len() {
         match reader.read(&mut buf[n..]) {
             Ok(0) => return (n, Ok(())),

@@ -58,6 +58,7 @@ fn print_pbm<O: Write>(out: &mut O, pixels: &mut [u8], w: u64, h: u64) -> io::Re
     print_rows(out, pixels, 70)
 }
 
+// Kept: the two outputs stay two parameters. A struct of them would be unpacked again at each line.
 // The picture of drawn pixels; that there are none is told in a line. (A buffer of 65,536 bytes holds all that are drawn.)
 fn print_picture<O: Write, E: Write>(
     m: Measures,
