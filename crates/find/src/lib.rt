@@ -14,6 +14,7 @@ pub fn first_place(font: &[u8]) -> usize
 }
 
 // The packet of a code, wherever it stands: the place of its flag, and its outline.
+// Kept: the loop goes on at the place that each piece says, so it counts no index.
 pub fn packet_of(font: &[u8], code: usize) -> Option<(usize, Outline)>
     requires { Accepted font.now }
     ensures { IsFound font.now code result }

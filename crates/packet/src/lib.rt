@@ -161,6 +161,7 @@ fn narrow(s: &[u8], at: usize, b: usize, m: usize) -> Result<Piece, Refusal>
 }
 
 // The long packet with the flag b, whose fields stand at `at`: 36 bytes, of which the length counts 28.
+// Kept: the steps are those of `narrow` over other fields; one function over both would take two sizes and a closure, and be no plainer.
 fn long(s: &[u8], at: usize, b: usize) -> Result<Piece, Refusal>
     requires { at ≤ length s.now }
     ensures { result ≡ outlined long b at s.now }
