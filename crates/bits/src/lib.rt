@@ -35,6 +35,7 @@ pub fn draw_bits(s: &[u8], n: usize, buf: &mut [u8])
     requires { (n ≤ 65536) × (n ≤ 8 * length s.now) × (n ≤ length buf.old) }
     ensures { buf.new ≡ take n (bits s.now) ++ drop n buf.old }
 {
+    // Kept: whole bytes and a tail, since chunks_mut(8) with zip took twice the time.
     let whole = n / 8;
     for i in 0..whole {
         put(buf, 8 * i, eight(s[i]), 8);
