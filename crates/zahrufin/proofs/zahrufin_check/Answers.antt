@@ -1,26 +1,23 @@
 use native.Mathlib.Omega.{arith}
+use Prim.Native.Nat.{ℕ}
 use Rattle.format.proofs.FieldLaws.{bytes_of_lem}
+use Rattle.refusals.proofs.AnswerLaws.{given, not_given}
 use Rattle.zahrufin.proofs.FitLaws.{chars_fit, check_fits}
-use Rattle.zahrufin.proofs.HandedLaws.{chars_said, check_refused, checked_says, checked_refuses}
+use Rattle.zahrufin.proofs.HandedLaws.{checked_says, checked_refuses}
 use Rattle.zahrufin.proofs.zahrufin_check.Goals as goal
 
 pub overflow_cast-result : goal.overflow_cast-result
 overflow_cast-result c =
     let s = c.args.font.now in
-    record { fits = chars_fit s _ (bytes_of_lem s (λ i. omega (arith, c.type_inv.font i))) (chars_said _ _ c.check-checked.ensures _ c.in-Chars.is) }
+    record { fits = chars_fit s _ (bytes_of_lem s (λ i. omega (arith, c.type_inv.font i))) (given (λ (n : ℕ). n) _ _ c.check.ensures _ c.in-Ok.is) }
 
-pub overflow_cast-result-in-Refused : goal.overflow_cast-result-in-Refused
-overflow_cast-result-in-Refused c =
+pub overflow_cast-result-in-Err : goal.overflow_cast-result-in-Err
+overflow_cast-result-in-Err c =
     let s = c.args.font.now in
-    record { fits = (check_fits s _ _ (bytes_of_lem s (λ i. omega (arith, c.type_inv.font i))) (check_refused _ _ c.check-checked.ensures _ _ c.in-Refused.is)).0 }
+    record { fits = (check_fits s _ _ (bytes_of_lem s (λ i. omega (arith, c.type_inv.font i))) (not_given (λ (n : ℕ). n) _ _ c.check.ensures _ c.in-Err.is)).1 }
 
-pub overflow_cast-result-in-Refused-2 : goal.overflow_cast-result-in-Refused-2
-overflow_cast-result-in-Refused-2 c =
-    let s = c.args.font.now in
-    record { fits = (check_fits s _ _ (bytes_of_lem s (λ i. omega (arith, c.type_inv.font i))) (check_refused _ _ c.check-checked.ensures _ _ c.in-Refused.is)).1 }
+pub returns-in-Ok : goal.returns-in-Ok
+returns-in-Ok c = checked_says _ _ (given (λ (n : ℕ). n) _ _ c.check.ensures _ c.in-Ok.is)
 
-pub returns-in-Chars : goal.returns-in-Chars
-returns-in-Chars c = checked_says _ _ (chars_said _ _ c.check-checked.ensures _ c.in-Chars.is)
-
-pub returns-in-Refused : goal.returns-in-Refused
-returns-in-Refused c = checked_refuses _ _ _ (check_refused _ _ c.check-checked.ensures _ _ c.in-Refused.is)
+pub returns-in-Err : goal.returns-in-Err
+returns-in-Err c = rw c.number.ensures (checked_refuses _ _ _ (not_given (λ (n : ℕ). n) _ _ c.check.ensures _ c.in-Err.is))
