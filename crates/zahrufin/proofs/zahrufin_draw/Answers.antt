@@ -1,3 +1,4 @@
+use mathlib.Core.Path.{refl}
 use native.Mathlib.Omega.{arith}
 use Rattle.format.proofs.FieldLaws.{bytes_of_lem}
 use Rattle.measures.specs.Said.{said}
@@ -10,3 +11,9 @@ pub overflow_cast-result : goal.overflow_cast-result
 overflow_cast-result c =
     let s = c.args.font.now in
     record { fits = (draw_fits s _ _ _ _ (bytes_of_lem s (λ i. omega (arith, c.type_inv.font i))) (not_given said _ _ c.draw.ensures.result_value _ c.in-Err.is)).1 }
+
+pub returns-in-Ok-clause-value : goal.returns-in-Ok-clause-value
+returns-in-Ok-clause-value c = drawn_says _ _ _ (given said _ _ c.draw.ensures.result_value _ c.in-Ok.is) c.from.ensures
+
+pub returns-in-Err-clause-value : goal.returns-in-Err-clause-value
+returns-in-Err-clause-value c = rw c.number.ensures (drawn_refuses _ _ _ _ (not_given said _ _ c.draw.ensures.result_value _ c.in-Err.is) refl)
