@@ -6,6 +6,7 @@ ghost use Rattle.std.specs.Iterator.{at_most};
 ghost use Rattle.cases.specs.Blocks.{block_at, NextCase};
 
 // A buffer to read the cases into. What stands in it is not said: a program's proof needs its length only.
+// Kept: fixed room, since nothing here allocates.
 pub fn empty<const N: usize>() -> [u8; N]
     ensures { N ≡ length result }
 {

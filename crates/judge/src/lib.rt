@@ -83,6 +83,8 @@ fn judge_bits(s: &[u8], n: usize) -> Result<(), Refusal>
 }
 
 // The raster bytes s of w by h pixels.
+// Kept: f, the black bit, w and h are fields of packet::Outline. A struct of the four would be filled for one call here and one of
+// raster::draw_raster, and taken apart again at once.
 pub fn judge(s: &[u8], f: usize, black: bool, w: usize, h: usize) -> Result<(), Refusal>
     requires { (f ≤ 14) × (in_limits w h ≡ true) }
     ensures { result ≡ judged (items f w h s.now) }

@@ -27,6 +27,7 @@ pub fn mark_of(bytes: &[u8]) -> usize
 }
 
 // A buffer to lend, the old byte everywhere. Lending a part of it needs its length only.
+// Kept: fixed room, since nothing here allocates.
 pub fn old_bytes() -> [u8; ROOM]
     ensures { 65600 ≡ length result }
 {

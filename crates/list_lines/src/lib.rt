@@ -68,6 +68,7 @@ pub fn print_listing<W: Write>(out: &mut W, font: &[u8]) -> io::Result<()> {
 
 // The listing of the font that a reader gives. A byte more than a font may have is read, so that a longer file is refused, and none is cut off.
 pub fn list_from<R: Read, W: Write>(reader: &mut R, out: &mut W) -> io::Result<()> {
+    // Kept: fixed room, since nothing here allocates.
     let mut font = [0u8; 65537];
     print_listing(out, lines::read_into(reader, &mut font)?)
 }

@@ -16,6 +16,7 @@ fn arg_count(rt: &impl Env) -> usize {
 
 // The arguments, as far as they are there.
 fn main(rt: HostRuntime) -> io::Result<()> {
+    // Kept: fixed room, since nothing here allocates.
     let mut path = [0u8; 4096];
     let mut code = [0u8; 4096];
     let mut word = [0u8; 4096];

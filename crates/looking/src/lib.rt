@@ -104,6 +104,7 @@ fn show<O: Write, E: Write>(
     out: &mut O,
     err: &mut E,
 ) -> io::Result<()> {
+    // Kept: fixed room, since nothing here allocates.
     let mut pixels = [0u8; 65536];
     let buf: &mut [u8] = &mut pixels;
     let drawn = draw::draw(font, code, buf);
@@ -142,6 +143,7 @@ fn look<R: Files, O: Write, E: Write>(
     let Some(mut file) = open(rt, path) else {
         return say_path(err, b"look: cannot open ", path);
     };
+    // Kept: fixed room, since nothing here allocates.
     let mut font = [0u8; 65537];
     let (n, read) = lines::read_full(&mut file, &mut font);
     if n == 0 {
