@@ -6,6 +6,7 @@ ghost use Rattle.find.specs.Places.{Accepted, IsFirst, IsFound};
 use packet::{Outline, Piece};
 
 // The place behind the preamble of an accepted font.
+// Kept: that the font is accepted stays a clause. A struct of such a font would be made at one call, of draw::draw, and opened at the next.
 pub fn first_place(font: &[u8]) -> usize
     requires { Accepted font.now }
     ensures { IsFirst font.now result }

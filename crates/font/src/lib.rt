@@ -69,6 +69,7 @@ fn none_seen() -> [bool; 256]
 }
 
 // The pieces from a place on, behind the preamble.
+// Kept: the loop goes on at the place that each piece says, so it counts no index.
 fn onward(font: &[u8], start: usize) -> Result<usize, Refused>
     requires { (start ≤ length font.now) × (length font.now ≤ 65536) }
     ensures { IsOnward font.now start result }

@@ -10,6 +10,13 @@ use std::io::Write;
 use std::rt::Files;
 use std::{io, str};
 
+// How a character is shown.
+#[derive(Clone, Copy)]
+enum Picture {
+    Text,
+    Pbm,
+}
+
 // How to use the program, in a line.
 fn say_usage<E: Write>(err: &mut E) -> io::Result<()> {
     err.write_all(b"usage: look FONT CODE [pbm]\n")
@@ -64,7 +71,7 @@ fn print_picture<O: Write, E: Write>(
     m: Measures,
     code: usize,
     pixels: &mut [u8],
-    pbm: bool,
+    picture: Picture,
     out: &mut O,
     err: &mut E,
 ) -> io::Result<()> {
@@ -76,10 +83,9 @@ fn print_picture<O: Write, E: Write>(
     let Some(pixels) = pixels.get_mut(..lines::area(w, h)) else {
         return Ok(());
     };
-    if pbm {
-        print_pbm(out, pixels, w, h)
-    } else {
-        print_text(out, pixels, w)
+    match picture {
+        Picture::Text => print_text(out, pixels, w),
+        Picture::Pbm => print_pbm(out, pixels, w, h),
     }
 }
 
@@ -100,7 +106,7 @@ fn say_refused<E: Write>(err: &mut E, x: Refused, code: usize) -> io::Result<()>
 fn show<O: Write, E: Write>(
     font: &[u8],
     code: usize,
-    pbm: bool,
+    picture: Picture,
     out: &mut O,
     err: &mut E,
 ) -> io::Result<()> {
@@ -109,7 +115,7 @@ fn show<O: Write, E: Write>(
     let buf: &mut [u8] = &mut pixels;
     let drawn = draw::draw(font, code, buf);
     match drawn {
-        Ok(m) => print_picture(m, code, buf, pbm, out, err),
+        Ok(m) => print_picture(m, code, buf, picture, out, err),
         Err(x) => say_refused(err, x, code),
     }
 }
@@ -133,7 +139,7 @@ fn look<R: Files, O: Write, E: Write>(
     rt: &R,
     path: &[u8],
     text: &[u8],
-    pbm: bool,
+    picture: Picture,
     out: &mut O,
     err: &mut E,
 ) -> io::Result<()> {
@@ -150,7 +156,7 @@ fn look<R: Files, O: Write, E: Write>(
         return say_path(err, b"look: nothing to read in ", path);
     }
     read?;
-    show(&font[..n], code, pbm, out, err)
+    show(&font[..n], code, picture, out, err)
 }
 
 // The program with so many arguments, its own name among them: a path, a code and, if a third is there, pbm.
@@ -164,8 +170,8 @@ pub fn run<R: Files, O: Write, E: Write>(
     err: &mut E,
 ) -> io::Result<()> {
     match (count, word) {
-        (3, _) => look(rt, path, code, false, out, err),
-        (4, b"pbm") => look(rt, path, code, true, out, err),
+        (3, _) => look(rt, path, code, Picture::Text, out, err),
+        (4, b"pbm") => look(rt, path, code, Picture::Pbm, out, err),
         _ => say_usage(err),
     }
 }

@@ -51,6 +51,7 @@ fn narrow(s: &[u8], at: usize, m: usize, x: Outline) -> Measures
 }
 
 // The same of a long one: length, code, tfm, dx, dy, w, h, hoff, voff of four bytes each.
+// Kept: it has other fields than a narrow one, dx and dy for dm, in another order.
 fn long(s: &[u8], at: usize, x: Outline) -> Measures
     requires { (at + 36 ≤ length s.now) × Small x }
     ensures { said result ≡ said_by long x (drop at s.now) }

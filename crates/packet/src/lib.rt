@@ -74,6 +74,7 @@ struct Fields {
 }
 
 // The fields of a short packet, of m = 1, or an extended one, of m = 2, which stand at `at`, behind the flag b:
+// (Kept: m is a number of bytes, which is added and multiplied.)
 // length[m] code[1] tfm[3] dm[m] w[m] h[m] hoff[+m] voff[+m].
 fn narrow_fields(s: &[u8], at: usize, b: usize, m: usize) -> Fields
     requires { (at + (6 * m + 4) ≤ length s.now) × (1 ≤ m) × (m ≤ 2) }
