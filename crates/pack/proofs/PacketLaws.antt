@@ -19,8 +19,6 @@ use Rattle.format.specs.Counts.{counts}
 use Rattle.format.specs.Choice.{first_black, in_form, first_form}
 use Rattle.format.specs.Packing.{all_pixels, choice_in, packet_for, packed, pack, pack_answer, pack_buffer}
 use Rattle.format.proofs.FieldLaws.{length_fields}
-use Rattle.format.proofs.PieceLaws.{box_true}
-use Rattle.format.proofs.FillLaws.{limits_small}
 use Rattle.format.proofs.PackTheorems.{chosen_most, chosen_none}
 use Rattle.format.proofs.FormLaws.{values_for, values_for_lem, first_length, none_length}
 use Rattle.std.specs.Prelude.{Ok, Err}
@@ -119,10 +117,6 @@ some_form m f black raster (Extended dm x y) t = record { k = extended; is = t }
 some_form m f black raster (Long x y) t = record { k = long; is = t }
 
 -- Behind the checks.
-
--- There are few pixels,
-pub bitmap_small : (b : List ℕ) (w h : ℕ) (m : F.Measures) → Bitmap b w h m → length b ≤ 65536
-bitmap_small b w h m t = rw (t.size, t.wide, t.high) (limits_small (nat_abs m.w) (nat_abs m.h) (box_true m.w m.h t.judged.limits).2)
 
 -- f is at most 14, and 14 where there are none,
 pub choice_f : (b : List ℕ) (w h : ℕ) (r : Chosen) → IsChosen w h b r → (r.f ≤ 14) × (w ≡ 0 → r.f ≡ 14)

@@ -59,33 +59,25 @@ fn first_black(b: &[u8], f: usize) -> bool
 }
 
 // The raster bytes for f, from the byte at `at` on.
-fn write_raster(
-    b: &[u8],
-    w: usize,
-    h: usize,
-    f: usize,
-    part: &mut Part,
-    buf: &mut [u8],
-    at: usize,
-) -> usize
-    requires { (f ≤ 14) × (w ≡ 0 → f ≡ 14) × (length b.now ≡ w * h) × (length b.now ≤ 65536) × (all_pixels b.now ≡ true) × First b.now w part.old × (at + length (raster_for f w h b.now) ≤ length buf.old) }
-    ensures value { result ≡ at + length (raster_for f w h b.now) }
-    ensures buf_after { buf.new ≡ take at buf.old ++ (raster_for f w h b.now ++ drop result buf.old) }
+fn write_raster(b: walk::Bitmap, f: usize, part: &mut Part, buf: &mut [u8], at: usize) -> usize
+    requires { (f ≤ 14) × (b.rows.w ≡ 0 → f ≡ 14) × (all_pixels b.rows.pixels.now ≡ true) × First b.rows.pixels.now b.rows.w part.old × (at + length (raster_for f b.rows.w b.h b.rows.pixels.now) ≤ length buf.old) }
+    ensures value { result ≡ at + length (raster_for f b.entry.rows.w b.entry.h b.entry.rows.pixels.now) }
+    ensures buf_after { buf.new ≡ take at buf.old ++ (raster_for f b.entry.rows.w b.entry.h b.entry.rows.pixels.now ++ drop result buf.old) }
 {
     match Factor::new(f) {
-        None => bit_bytes::write_bits(b, buf, at),
-        Some(f) => run_bytes::write_runs(b, w, h, f, part, buf, at),
+        None => bit_bytes::write_bits(b.rows.pixels, buf, at),
+        Some(f) => run_bytes::write_runs(b, f, part, buf, at),
     }
 }
 
-// A bitmap of w by h pixels with a code that 01 allows: 20, then 17, or the packet.
-fn pack_judged(b: &[u8], w: usize, h: usize, m: Measures, buf: &mut [u8]) -> Result<usize, Refused>
-    requires { Bitmap b.now w h (said m) }
-    ensures result_value { in_numbers result ≡ told (pack_answer b.now (said m) buf.old) }
-    ensures buf_after { buf.new ≡ pack_buffer b.now (said m) buf.old }
+// A bitmap of pixels with a code that 01 allows: 20, then 17, or the packet.
+fn pack_judged(b: walk::Bitmap, m: Measures, buf: &mut [u8]) -> Result<usize, Refused>
+    requires { Bitmap b.rows.pixels.now b.rows.w b.h (said m) }
+    ensures result_value { in_numbers result ≡ told (pack_answer b.entry.rows.pixels.now (said m) buf.old) }
+    ensures buf_after { buf.new ≡ pack_buffer b.entry.rows.pixels.now (said m) buf.old }
 {
     let mut part = Part::new();
-    let chosen = size::choose(b, w, h, &mut part);
+    let chosen = size::choose(b, &mut part);
     let f = chosen.f;
     let n = chosen.bytes;
     let Some(form) = pick::pick_form(m, n) else {
@@ -95,9 +87,9 @@ fn pack_judged(b: &[u8], w: usize, h: usize, m: Measures, buf: &mut [u8]) -> Res
     if buf.len() < head + n {
         return Err(Refusal::NoRoom.at(0));
     }
-    let black = first_black(b, f);
+    let black = first_black(b.rows.pixels, f);
     let at = head::write_head(buf, f, black, m, form, n);
-    Ok(write_raster(b, w, h, f, &mut part, buf, at))
+    Ok(write_raster(b, f, &mut part, buf, at))
 }
 
 // Any bitmap, any measures, any buffer: 18, 19, 8, 20, 17 in this order, and the buffer stays as it was; or the packet's length, with
@@ -114,11 +106,13 @@ pub fn pack(bitmap: &[u8], m: Measures, packet: &mut [u8]) -> Result<usize, Refu
     if bitmap.len() != w * h {
         return Err(Refusal::BadBitmap.at(0));
     }
+    let rows = walk::Rows { pixels: bitmap, w };
+    let b = walk::Bitmap { rows, h };
     if !all_pixels(bitmap) {
         return Err(Refusal::BadBitmap.at(0));
     }
     if !is_code(m.code) {
         return Err(Refusal::BadCode.at(0));
     }
-    pack_judged(bitmap, w, h, m, packet)
+    pack_judged(b, m, packet)
 }

@@ -1,5 +1,5 @@
 -- Runs kept, one after the other. Assumes nothing.
-use Rattle.std.proofs.Common.{◌≡◌, ℕ, zero, suc, ◌+◌, ◌-◌, ◌≤◌, ◌<◌, List, [], ◌∷◌, ◌++◌, length, take, set, refl, sym, ap, ◌∙◌, append_assoc, append-nil, arith}
+use Rattle.std.proofs.Common.{◌≡◌, ℕ, zero, suc, ◌+◌, ◌≤◌, ◌<◌, List, [], ◌∷◌, ◌++◌, length, take, set, refl, sym, ap, ◌∙◌, append_assoc, append-nil, arith}
 use Rattle.std.specs.List.{All}
 use Rattle.std.proofs.lemmas.List.{take_more_set}
 use Rattle.std.proofs.lemmas.List.Elements.{All-append}
@@ -7,10 +7,8 @@ use Rattle.format.specs.Rasters.{Item, run}
 use Rattle.format.specs.Counts.{before}
 use Rattle.walk.specs.declared.Cursor.{Cursor}
 use Rattle.walk.specs.Walk.{items_left, Inside, Next}
-use Rattle.walk.proofs.RunLaws.{at_most}
 use Rattle.part.specs.declared.Run.{Run}
-use Rattle.part.specs.declared.Part.{Part}
-use Rattle.part.specs.Parts.{kept, Small, Walked, Kept}
+use Rattle.part.specs.Parts.{kept, Small, Walked}
 
 -- A run with the repeat before it, and then other items.
 run_then : (k m : ℕ) (is : List Item) → before m (run k ∷ is) ≡ before m (run k ∷ []) ++ is

@@ -5,7 +5,7 @@ ghost use Rattle.std.specs.Prelude.{◌≡◌, ◌≤◌, ◌↔◌, IsTrue};
 ghost use Rattle.walk.specs.Walk.{begin, Inside};
 ghost use Rattle.part.specs.Parts.{taken, Kept, First};
 
-use walk::Cursor;
+use walk::{Cursor, Rows};
 
 // How many runs a part has room for.
 pub const ROOM: usize = 512;
@@ -66,13 +66,13 @@ impl Part {
     }
 
     // The next runs from c on, as many as there is room for.
-    fn fill(&mut self, b: &[u8], w: usize, c: Cursor)
-        requires { Inside b.now w c }
-        ensures { Kept b.now w c self.new }
+    fn fill(&mut self, rows: Rows, c: Cursor)
+        requires { Inside rows.pixels.now rows.w c }
+        ensures { Kept rows.entry.pixels.now rows.entry.w c self.new }
     {
         let mut d = c;
         for n in 0..ROOM {
-            let Some(next) = walk::next_run(b, w, d) else {
+            let Some(next) = walk::next_run(rows, d) else {
                 self.n = n;
                 self.cursor = d;
                 return;
@@ -96,28 +96,28 @@ impl Part {
     }
 
     // The first runs of the list.
-    pub fn restart(&mut self, b: &[u8], w: usize)
-        requires { Inside b.now w begin }
-        ensures { Kept b.now w begin self.new }
+    pub fn restart(&mut self, rows: Rows)
+        requires { Inside rows.pixels.now rows.w begin }
+        ensures { Kept rows.entry.pixels.now rows.entry.w begin self.new }
     {
-        self.fill(b, w, walk::start());
+        self.fill(rows, walk::start());
     }
 
     // The runs behind those kept.
-    pub fn walk_on(&mut self, b: &[u8], w: usize)
-        requires { Inside b.now w self.old.cursor }
-        ensures { Kept b.now w self.old.cursor self.new }
+    pub fn walk_on(&mut self, rows: Rows)
+        requires { Inside rows.pixels.now rows.w self.old.cursor }
+        ensures { Kept rows.entry.pixels.now rows.entry.w self.old.cursor self.new }
     {
-        self.fill(b, w, self.cursor);
+        self.fill(rows, self.cursor);
     }
 
     // The first part, which is walked again unless it is the whole list and still kept.
-    pub fn first(&mut self, b: &[u8], w: usize)
-        requires { Inside b.now w begin × First b.now w self.old }
-        ensures { Kept b.now w begin self.new }
+    pub fn first(&mut self, rows: Rows)
+        requires { Inside rows.pixels.now rows.w begin × First rows.pixels.now rows.w self.old }
+        ensures { Kept rows.entry.pixels.now rows.entry.w begin self.new }
     {
         if self.is_full() {
-            self.restart(b, w);
+            self.restart(rows);
         }
     }
 }

@@ -11,6 +11,7 @@ ghost use Rattle.run_bytes.specs.Put.{Room, Put};
 
 use packed::Factor;
 use part::{Part, Run};
+use walk::{Bitmap, Rows};
 
 // The repeat m that stands before a run, 0 for none.
 fn write_repeat(buf: &mut [u8], i: usize, f: Factor, m: usize) -> usize
@@ -52,9 +53,9 @@ fn write_part(buf: &mut [u8], i: usize, f: Factor, runs: &[Run]) -> usize
 }
 
 // The nybbles of the whole count list from the nybble at i on, part after part.
-fn write_nybbles(b: &[u8], w: usize, f: Factor, part: &mut Part, buf: &mut [u8], i: usize) -> usize
-    requires { Kept b.now w begin part.old × Room buf.old i (writings f.n (items_left b.now w begin)) }
-    ensures { Put buf.old i (writings f.n (items_left b.now w begin)) result buf.new }
+fn write_nybbles(rows: Rows, f: Factor, part: &mut Part, buf: &mut [u8], i: usize) -> usize
+    requires { Kept rows.pixels.now rows.w begin part.old × Room buf.old i (writings f.n (items_left rows.pixels.now rows.w begin)) }
+    ensures { Put buf.old i (writings f.n (items_left rows.entry.pixels.now rows.entry.w begin)) result buf.new }
 {
     let mut to = i;
     loop {
@@ -62,24 +63,16 @@ fn write_nybbles(b: &[u8], w: usize, f: Factor, part: &mut Part, buf: &mut [u8],
         if !part.is_full() {
             return to;
         }
-        part.walk_on(b, w);
+        part.walk_on(rows);
     }
 }
 
 // The raster bytes for f, from the byte at `at` on; a spare half byte is zero. It answers the place behind.
-pub fn write_runs(
-    b: &[u8],
-    w: usize,
-    h: usize,
-    f: Factor,
-    part: &mut Part,
-    buf: &mut [u8],
-    at: usize,
-) -> usize
-    requires { (0 < w) × (length b.now ≡ w * h) × (length b.now ≤ 65536) × First b.now w part.old × (at + length (halves (writings f.n (counts (rows w h b.now)))) ≤ length buf.old) }
-    ensures value { result ≡ at + length (halves (writings f.n (counts (rows w h b.now)))) }
-    ensures buf_after { buf.new ≡ take at buf.old ++ (halves (writings f.n (counts (rows w h b.now))) ++ drop result buf.old) }
+pub fn write_runs(b: Bitmap, f: Factor, part: &mut Part, buf: &mut [u8], at: usize) -> usize
+    requires { (0 < b.rows.w) × First b.rows.pixels.now b.rows.w part.old × (at + length (halves (writings f.n (counts (rows b.rows.w b.h b.rows.pixels.now)))) ≤ length buf.old) }
+    ensures value { result ≡ at + length (halves (writings f.n (counts (rows b.entry.rows.w b.entry.h b.entry.rows.pixels.now)))) }
+    ensures buf_after { buf.new ≡ take at buf.old ++ (halves (writings f.n (counts (rows b.entry.rows.w b.entry.h b.entry.rows.pixels.now))) ++ drop result buf.old) }
 {
-    part.first(b, w);
-    write_nybbles(b, w, f, part, buf, 2 * at).div_ceil(2)
+    part.first(b.rows);
+    write_nybbles(b.rows, f, part, buf, 2 * at).div_ceil(2)
 }

@@ -1,11 +1,11 @@
 -- The fourteen totals over a count list. Assumes nothing.
-use Prim.Native.Nat.{ℕ, zero, suc, ◌+◌, ◌*◌, ◌≤◌, ◌<◌}
-use mathlib.Core.Path.{◌≡◌, refl, ap, ◌∙◌}
+use Prim.Native.Nat.{ℕ, suc, ◌+◌, ◌*◌, ◌≤◌, ◌<◌}
+use mathlib.Core.Path.{◌≡◌, ap, ◌∙◌}
 use mathlib.Core.List.{List, [], ◌∷◌, ◌++◌}
 use native.Mathlib.Omega.{arith}
 use mathlib.Core.Bool.{Bool, false, true}
 use native.Mathlib.Nat.{lt_of_not-le}
-use lib.ListN.{length, get_or, set, take, length-set, replicate}
+use lib.ListN.{length, get_or, set, take, length-set}
 use lib.Seq.{get_or-set_same, get_or-set_other, get_or-take}
 use Rattle.std.specs.Prelude.{IsTrue, ◌↔◌}
 use Rattle.std.specs.List.{All}

@@ -11,6 +11,7 @@ ghost use Rattle.part.specs.Parts.{kept, Small, Kept, First};
 ghost use Rattle.size.specs.Sizes.{over, Few, short_nybbles, digit_nybbles, Totals, Added, Grown, Sized, Best, IsChosen};
 
 use part::{Part, Run};
+use walk::{Bitmap, Rows};
 
 // The f that is chosen, and the number of its raster bytes.
 #[derive(Clone, Copy)]
@@ -125,9 +126,9 @@ fn add_part(t: &mut [u32; 14], runs: &[Run])
 }
 
 // All fourteen sizes, f = 0 first, from the first part on. Where the first is the whole list, it stays kept.
-pub fn sizes(b: &[u8], w: usize, part: &mut Part) -> [u32; 14]
-    requires { Kept b.now w begin part.old }
-    ensures { Sized b.now w result part.new }
+pub fn sizes(rows: Rows, part: &mut Part) -> [u32; 14]
+    requires { Kept rows.pixels.now rows.w begin part.old }
+    ensures { Sized rows.entry.pixels.now rows.entry.w result part.new }
 {
     let mut t = [0u32; 14];
     let several = part.is_full();
@@ -136,7 +137,7 @@ pub fn sizes(b: &[u8], w: usize, part: &mut Part) -> [u32; 14]
         if !part.is_full() {
             break;
         }
-        part.walk_on(b, w);
+        part.walk_on(rows);
     }
     if several {
         part.forget();
@@ -157,19 +158,18 @@ fn least_of(t: [u32; 14]) -> usize
     best
 }
 
-// The choice for a bitmap of w by h pixels, and the first part of its count list, if that is the whole list.
-pub fn choose(b: &[u8], w: usize, h: usize, part: &mut Part) -> Chosen
-    requires { (length b.now ≡ w * h) × (length b.now ≤ 65536) }
-    ensures chosen { IsChosen w h b.now result }
-    ensures first { First b.now w part.new }
+// The choice for a bitmap, and the first part of its count list, if that is the whole list.
+pub fn choose(b: Bitmap, part: &mut Part) -> Chosen
+    ensures chosen { IsChosen b.entry.rows.w b.entry.h b.entry.rows.pixels.now result }
+    ensures first { First b.entry.rows.pixels.now b.entry.rows.w part.new }
 {
-    let bits = b.len().div_ceil(8);
-    if w == 0 {
+    let bits = b.rows.pixels.len().div_ceil(8);
+    if b.rows.w == 0 {
         part.forget();
         return Chosen { f: 14, bytes: bits };
     }
-    part.restart(b, w);
-    let t = sizes(b, w, part);
+    part.restart(b.rows);
+    let t = sizes(b.rows, part);
     let f = least_of(t);
     let bytes = (t[f] as usize).div_ceil(2);
     if bits < bytes {

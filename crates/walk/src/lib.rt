@@ -1,10 +1,26 @@
 // The count list of a bitmap, one run at a time, with no list stored: a cursor by value walks the rows kept.
 #![tactic(auto)]
 
-ghost use Rattle.std.specs.Prelude.{◌+◌, ◌≤◌, ◌<◌, ◌≡◌, length, take, drop};
+ghost use Rattle.std.specs.Prelude.{◌+◌, ◌*◌, ◌≤◌, ◌<◌, ◌≡◌, length, take, drop};
 ghost use Rattle.format.specs.Lists.{same};
 ghost use Rattle.format.specs.Counts.{mixed};
 ghost use Rattle.walk.specs.Walk.{begin, Inside, Counted, RowAt, Removal, Entered, Standing, Open, Ended, InRow};
+
+// Pixels in rows of w. Of a whole number of rows nothing is said: a walk asks that of its cursor.
+#[derive(Clone, Copy)]
+pub struct Rows<'a> {
+    pub pixels: &'a [u8],
+    pub w: usize,
+}
+
+// The pixels of a bitmap of h such rows, which are not more than 01 allows.
+#[derive(Clone, Copy)]
+pub struct Bitmap<'a> {
+    pub rows: Rows<'a>,
+    pub h: usize,
+    pub ghost size: { length rows.pixels.now ≡ rows.w * h },
+    pub ghost small: { length rows.pixels.now ≤ 65536 },
+}
 
 // A place in the joined string: the next pixel and the end of its row, where the next row kept begins, the repeats of this row that
 // have not found their place, and the pixel before.
@@ -39,53 +55,53 @@ struct Removed {
     n: usize,
 }
 
-// The row of w pixels from at on is neither all white nor all black.
-fn mixed_row(b: &[u8], at: usize, w: usize) -> bool
-    requires { (0 < w) × (at + w ≤ length b.now) }
-    ensures { result ≡ mixed (take w (drop at b.now)) }
+// The row from at on is neither all white nor all black.
+fn mixed_row(rows: Rows, at: usize) -> bool
+    requires { (0 < rows.w) × (at + rows.w ≤ length rows.pixels.now) }
+    ensures { result ≡ mixed (take rows.entry.w (drop at rows.entry.pixels.now)) }
 {
-    let x = b[at];
-    scan::first_other(b, at, w, x) < w || 1 < x
+    let x = rows.pixels[at];
+    scan::first_other(rows.pixels, at, rows.w, x) < rows.w || 1 < x
 }
 
-// The rows of w pixels from x and from y on are equal.
-fn same_rows(b: &[u8], x: usize, y: usize, w: usize) -> bool
-    requires { (x ≤ y) × (y + w ≤ length b.now) }
-    ensures { result ≡ same (take w (drop x b.now)) (take w (drop y b.now)) }
+// The rows from x and from y on are equal.
+fn same_rows(rows: Rows, x: usize, y: usize) -> bool
+    requires { (x ≤ y) × (y + rows.w ≤ length rows.pixels.now) }
+    ensures { result ≡ same (take rows.entry.w (drop x rows.entry.pixels.now)) (take rows.entry.w (drop y rows.entry.pixels.now)) }
 {
-    scan::first_difference(b, x, y, w) == w
+    scan::first_difference(rows.pixels, x, y, rows.w) == rows.w
 }
 
 // The rows under the one at `at` that are removed and counted as its repeats.
 // Kept: a while, since the place where it stops is part of the answer.
-fn repeats_of(b: &[u8], w: usize, at: usize) -> Removed
-    requires { RowAt b.now w at }
-    ensures { Removal b.now w at result.next result.n }
+fn repeats_of(rows: Rows, at: usize) -> Removed
+    requires { RowAt rows.pixels.now rows.w at }
+    ensures { Removal rows.entry.pixels.now rows.entry.w at result.next result.n }
 {
-    let mut next = at + w;
+    let mut next = at + rows.w;
     let mut n: usize = 0;
-    while next < b.len() {
-        if !same_rows(b, at, next, w) {
+    while next < rows.pixels.len() {
+        if !same_rows(rows, at, next) {
             return Removed { next, n };
         }
-        if n == 0 && !mixed_row(b, at, w) {
+        if n == 0 && !mixed_row(rows, at) {
             return Removed { next, n };
         }
-        next += w;
+        next += rows.w;
         n += 1;
     }
     Removed { next, n }
 }
 
 // The cursor in the next row, where its row is full.
-fn enter(b: &[u8], w: usize, c: Cursor) -> Cursor
-    requires { (Inside b.now w c) × (c.end ≤ c.at) × (c.next < length b.now) }
-    ensures { Entered b.now w c result }
+fn enter(rows: Rows, c: Cursor) -> Cursor
+    requires { (Inside rows.pixels.now rows.w c) × (c.end ≤ c.at) × (c.next < length rows.pixels.now) }
+    ensures { Entered rows.entry.pixels.now rows.entry.w c result }
 {
-    let r = repeats_of(b, w, c.next);
+    let r = repeats_of(rows, c.next);
     Cursor {
         at: c.next,
-        end: c.next + w,
+        end: c.next + rows.w,
         next: r.next,
         owed: r.n,
         before: c.before,
@@ -100,19 +116,19 @@ fn repeat_before(x: u8, before: u8, owed: usize) -> usize
 }
 
 // The run taken so far, where its row is full, goes on in the rows that follow.
-fn across(b: &[u8], w: usize, t: Taken) -> Count
-    requires { Open b.now w t.colour t.run.length t.run.repeat t.run.cursor }
-    ensures { Ended b.now w t.colour t.run.length t.run.repeat t.run.cursor result }
+fn across(rows: Rows, t: Taken) -> Count
+    requires { Open rows.pixels.now rows.w t.colour t.run.length t.run.repeat t.run.cursor }
+    ensures { Ended rows.entry.pixels.now rows.entry.w t.colour t.run.length t.run.repeat t.run.cursor result }
 {
     let x = t.colour;
     let mut r = t.run;
     loop {
         let next = r.cursor.next;
-        if b.len() <= next || b[next] != x {
+        if rows.pixels.len() <= next || rows.pixels[next] != x {
             return r;
         }
-        let mut d = enter(b, w, r.cursor);
-        let n = scan::first_other(b, d.at, d.end - d.at, x);
+        let mut d = enter(rows, r.cursor);
+        let n = scan::first_other(rows.pixels, d.at, d.end - d.at, x);
         let m = repeat_before(x, d.before, d.owed);
         d.at += n;
         d.owed -= m;
@@ -163,19 +179,19 @@ fn run_in_row(b: &[u8], c: Cursor) -> Taken
 }
 
 // The next run of the joined string, or none at its end.
-pub fn next_run(b: &[u8], w: usize, c: Cursor) -> Option<Count>
-    requires { Inside b.now w c }
-    ensures { Counted b.now w c result }
+pub fn next_run(rows: Rows, c: Cursor) -> Option<Count>
+    requires { Inside rows.pixels.now rows.w c }
+    ensures { Counted rows.entry.pixels.now rows.entry.w c result }
 {
-    if c.end <= c.at && b.len() <= c.next {
+    if c.end <= c.at && rows.pixels.len() <= c.next {
         return None;
     }
-    let t = run_in_row(b, c);
+    let t = run_in_row(rows.pixels, c);
     let d = t.run.cursor;
     if d.at < d.end {
         return Some(t.run);
     }
-    Some(across(b, w, t))
+    Some(across(rows, t))
 }
 
 // The cursor before the first pixel, after an imaginary white one.

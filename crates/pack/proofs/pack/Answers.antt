@@ -49,3 +49,9 @@ pack_judged-requires c =
       size = c.if-bitmap-w.false;
       pixels = sym c.all_pixels.ensures ∙ c.if-not-all_pixels.false;
     }
+
+pub invariant_of-b : goal.invariant_of-b
+invariant_of-b c =
+    let a = c.args.m in
+    let k = known a.w a.h _ c.magnitude-w.result c.magnitude-h.result (search to_z-of_z) (search to_z-of_z) c.within_limits.ensures (c.if-not-within_limits.false) c.magnitude-w.ensures.0 c.magnitude-h.ensures.0 in
+    record { size = c.if-bitmap-w.false; small = rw c.if-bitmap-w.false k.small }

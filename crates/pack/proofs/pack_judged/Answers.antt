@@ -6,11 +6,8 @@ use mathlib.Core.List.{◌++◌}
 use lib.ListN.{length, drop}
 use Rattle.measures.specs.Said.{said}
 use Rattle.head.specs.Head.{head_for, head_length}
-use Rattle.pack.proofs.PacketLaws.{none_refused, short_refused, done_answer, done_buffer, bitmap_small, choice_f, choice_bytes_lem, head_small}
+use Rattle.pack.proofs.PacketLaws.{none_refused, short_refused, done_answer, done_buffer, choice_f, choice_bytes_lem, head_small}
 use Rattle.pack.proofs.pack_judged.Goals as goal
-
-pub choose-chosen-requires : goal.choose-chosen-requires
-choose-chosen-requires c = (c.requires.size, bitmap_small _ _ _ _ c.requires)
 
 pub returns-in_default : goal.returns-in_default
 returns-in_default c =
@@ -32,7 +29,7 @@ write_head-at-requires c =
 pub write_raster-requires : goal.write_raster-requires
 write_raster-requires c =
     let f = choice_f _ _ _ _ c.choose-chosen.ensures.chosen in
-    (f.0, f.1, c.requires.size, bitmap_small _ _ _ _ c.requires, c.requires.pixels, c.choose-chosen.ensures.first, omega (arith, c.write_head-at.ensures.value, c.head_length-head.ensures, choice_bytes_lem _ _ _ _ c.choose-chosen.ensures.chosen))
+    (f.0, f.1, c.requires.pixels, c.choose-chosen.ensures.first, omega (arith, c.write_head-at.ensures.value, c.head_length-head.ensures, choice_bytes_lem _ _ _ _ c.choose-chosen.ensures.chosen))
 
 pub returns : goal.returns
 returns c =

@@ -6,19 +6,19 @@ use Rattle.run_bytes.proofs.WritingLaws.{room_halves, halves_end, halves_are}
 use Rattle.run_bytes.proofs.write_runs.Goals as goal
 
 pub first-requires : goal.first-requires
-first-requires c = let p = c.requires in (begin_inside _ _ _ p.0 p.1 p.2, p.3)
+first-requires c = let b = c.args.b in (begin_inside _ _ _ c.requires.0 b.size b.small, c.requires.1)
 
 pub write_nybbles-requires : goal.write_nybbles-requires
 write_nybbles-requires c =
-    (c.first.ensures, rw (begin_items c.args.b.now c.args.w c.args.h c.requires.0 c.requires.1) (room_halves c.args.buf.now _ _ c.requires.4))
+    (c.first.ensures, rw (begin_items _ _ _ c.requires.0 c.args.b.size) (room_halves c.args.buf.now _ _ c.requires.2))
 
 pub returns-clause-value : goal.returns-clause-value
 returns-clause-value c =
-    let p = rw (begin_items c.args.b.now c.args.w c.args.h c.requires.0 c.requires.1) at c.write_nybbles.ensures in
+    let p = rw (begin_items _ _ _ c.requires.0 c.args.b.size) at c.write_nybbles.ensures in
     omega (arith, c.div_ceil.ensures, halves_end _ _ _ _ p)
 
 pub returns-clause-buf_after : goal.returns-clause-buf_after
 returns-clause-buf_after c =
-    let p = rw (begin_items c.args.b.now c.args.w c.args.h c.requires.0 c.requires.1) at c.write_nybbles.ensures in
+    let p = rw (begin_items _ _ _ c.requires.0 c.args.b.size) at c.write_nybbles.ensures in
     let e : c.div_ceil.result ≡ (c.write_nybbles.result + 1) / 2 = omega (arith, c.div_ceil.ensures) in
-    rw e (halves_are _ _ _ _ c.requires.4 p)
+    rw e (halves_are _ _ _ _ c.requires.2 p)
