@@ -44,7 +44,7 @@ runs_length f is b h = rw (ne_eqb f 14 (λ e. omega arith)) (sym (length-halves 
 -- The choice.
 
 -- The sizes of what is left before the first pixel are those of the count list.
-pub counted : {b : List ℕ} {w : ℕ} {p : Part} {t : List ℕ} (h : ℕ) → 0 < w → length b ≡ w * h → Sized b w t p → Sizes (counts (rows w h b)) t
+pub counted : {b : List ℕ} {w : ℕ} {p q : Part} {t : List ℕ} (h : ℕ) → 0 < w → length b ≡ w * h → Sized b w p t q → Sizes (counts (rows w h b)) t
 counted {b} {w} h z e s = rw (begin_items b w h z e) at s.sizes
 
 chosen_some : (w h : ℕ) (is : List Item) → 0 < w → chosen w h is ≡ cond (ltb (bytes_of_bits (w * h)) ((nybble_count is (fewest is) + 1) / 2)) 14 (fewest is)

@@ -137,20 +137,20 @@ module _ {i : ℕ} {t u : List ℕ} (rs : List Run) (e : Grown t (nybble_count (
 
 -- Part after part.
 
--- What the totals have, and what is left where the part p begins, make the sizes of the count list. If it is of one part, it is this one.
-pub record Summed (b : List ℕ) (w : ℕ) (several : Bool) (t : List ℕ) (p : Part) : Type 0 where
+-- What the totals have, and what is left where the part p begins, make the sizes of the count list. If it is of one part, it is the first, and this one.
+pub record Summed (b : List ℕ) (w : ℕ) (first : Part) (several : Bool) (t : List ℕ) (p : Part) : Type 0 where
   pub from : Cursor
   pub part : Kept b w from p
   pub long : length t ≡ 14
   pub sum : (f : ℕ) → f < 14 → get_or t f 0 + nybble_count (items_left b w from) f ≡ nybble_count (items_left b w begin) f
   pub small : (f : ℕ) → f < 14 → get_or t f 0 ≤ 19 * from.at
-  pub whole : several ≡ false → (p.n < 512) × Kept b w begin p
+  pub whole : several ≡ false → (p.n < 512) × (p ≡ first)
 
 -- A part that is not full has room.
 pub not_full : {full : Bool} {n : ℕ} → (IsTrue full ↔ (512 ≤ n)) → full ≡ false → n < 512
 not_full {full} e h = lt_of_not-le (λ l. let x : full ≡ true = e.1 l in cc)
 
-module _ {b : List ℕ} {w : ℕ} {several : Bool} {t : List ℕ} (p : Part) (s : Summed b w several t p) where
+module _ {b : List ℕ} {w : ℕ} {first : Part} {several : Bool} {t : List ℕ} (p : Part) (s : Summed b w first several t p) where
   module _ {u : List ℕ} (a : Grown t (nybble_count (kept (taken p))) u) where
     -- The part is taken: what is left is left behind it.
     counted_on : (f : ℕ) → f < 14 → get_or u f 0 + nybble_count (items_left b w p.cursor) f ≡ nybble_count (items_left b w begin) f
@@ -162,7 +162,7 @@ module _ {b : List ℕ} {w : ℕ} {several : Bool} {t : List ℕ} (p : Part) (s 
     few f h = omega (arith, s.small f h, a.is f h, kept_few f (taken p) s.part.walked.runs (omega arith), length-take p.n p.runs, s.part.walked.further)
 
     -- The next part.
-    pub sum_more : (q : Part) → 512 ≤ p.n → Kept b w p.cursor q → Summed b w several u q
+    pub sum_more : (q : Part) → 512 ≤ p.n → Kept b w p.cursor q → Summed b w first several u q
     sum_more q l g = record { from = p.cursor; part = g; long = a.long; sum = counted_on; small = few; whole = λ h. absurd (omega (arith, (s.whole h).0)) }
 
     -- No run is left.

@@ -51,10 +51,12 @@ pub record Grown (t : List ℕ) (g : ℕ → ℕ) (r : List ℕ) : Type 0 where
 abbrev pub Sizes : List Item → List ℕ → Type 0
 Sizes is r = (f : ℕ) → f < 14 → (get_or r f 0 ≡ nybble_count is f) × (get_or r f 0 ≤ 2000000)
 
--- The totals r are the sizes of the count list; if the part p has room for more, it is the whole list.
-pub record Sized (b : List ℕ) (w : ℕ) (r : List ℕ) (p : Part) : Type 0 where
+-- The totals r are the sizes of the count list. A first part p with room for more stays as it is; what is kept afterwards, q, is the whole
+-- list if it has room for more.
+pub record Sized (b : List ℕ) (w : ℕ) (p : Part) (r : List ℕ) (q : Part) : Type 0 where
   pub sizes : Sizes (items_left b w begin) r
-  pub first : First b w p
+  pub stays : p.n < 512 → q ≡ p
+  pub first : First b w q
 
 -- best is the place of the least of the first n, the last of equal ones.
 pub record Best (t : List ℕ) (n best : ℕ) : Type 0 where

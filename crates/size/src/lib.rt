@@ -128,7 +128,7 @@ fn add_part(t: &mut [u32; 14], runs: &[Run])
 // All fourteen sizes, f = 0 first, from the first part on. Where the first is the whole list, it stays kept.
 pub fn sizes(rows: Rows, part: &mut Part) -> [u32; 14]
     requires { Kept rows.pixels.now rows.w begin part.old }
-    ensures { Sized rows.entry.pixels.now rows.entry.w result part.new }
+    ensures { Sized rows.entry.pixels.now rows.entry.w part.old result part.new }
 {
     let mut t = [0u32; 14];
     let several = part.is_full();
