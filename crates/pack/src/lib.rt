@@ -51,7 +51,7 @@ fn is_code(code: i64) -> bool
     sign::magnitude(code) < 256
 }
 
-// The first run is black; for f = 14 the bit is 0.
+// The first run is black; for f = 14 the bit is 0. (Kept: 14 is the number that a packet's flag has for bits.)
 fn first_black(b: &[u8], f: usize) -> bool
     ensures { result ≡ first_black f b.now }
 {

@@ -24,6 +24,7 @@ const NONE: Run = Run {
 };
 
 // The first n of the runs are kept, and the cursor is behind them. A full part is not taken for the whole list.
+// Kept: an array with its number, since nothing here allocates.
 #[derive(Drop)]
 pub struct Part {
     runs: [Run; ROOM],
@@ -82,7 +83,7 @@ impl Part {
                 repeat: next.repeat as u32,
             };
             let e = next.cursor;
-            // Field by field, since a copy of the whole would copy its padding too.
+            // Kept: field by field, since a copy of the whole would copy its padding too, which is slower.
             d = Cursor {
                 at: e.at,
                 end: e.end,

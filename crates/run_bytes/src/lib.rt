@@ -53,6 +53,7 @@ fn write_part(buf: &mut [u8], i: usize, f: Factor, runs: &[Run]) -> usize
 }
 
 // The nybbles of the whole count list from the nybble at i on, part after part.
+// Kept: the loop of size::sizes, as said there.
 fn write_nybbles(rows: Rows, f: Factor, part: &mut Part, buf: &mut [u8], i: usize) -> usize
     requires { Kept rows.pixels.now rows.w begin part.old × Room buf.old i (writings f.n (items_left rows.pixels.now rows.w begin)) }
     ensures { Put buf.old i (writings f.n (items_left rows.entry.pixels.now rows.entry.w begin)) result buf.new }

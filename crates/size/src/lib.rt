@@ -38,7 +38,8 @@ fn one_or_two(most: u32, n: u32) -> u32
     (n + 262143 - most) / 131072
 }
 
-// M = 208 - 15 * f, computed and not looked up, so that several f are taken side by side.
+// M = 208 - 15 * f.
+// Kept beside packed::limit_of: computed and not looked up, so that several f are taken side by side; f is the loop's number.
 fn limit_of(f: u32) -> u32
     requires { f ≤ 13 }
     ensures { Few (limit f) 208 result }
@@ -65,7 +66,7 @@ fn digit_nybbles(f: u32, n: u32) -> u32
 }
 
 // As many nybbles as a closure says for each f, in the fourteen totals. The loop has no branch. (A total of a whole count list is at most
-// 2,000,000; the bounds here leave room for what is added to it.)
+// 2,000,000; the bounds here leave room for what is added to it. Kept: each function asks another bound, so no type says it.)
 fn add_each<F: Fn(u32) -> u32>(t: &mut [u32; 14], nybbles: F)
     requires room { Totals 4000000 t.old }
     requires can { (f : ℕ) → f < 14 → F.pre nybbles f }
@@ -126,6 +127,7 @@ fn add_part(t: &mut [u32; 14], runs: &[Run])
 }
 
 // All fourteen sizes, f = 0 first, from the first part on. Where the first is the whole list, it stays kept.
+// Kept: the loop of run_bytes::write_nybbles. One function for both would take a closure that writes, whose calls no equation tells.
 pub fn sizes(rows: Rows, part: &mut Part) -> [u32; 14]
     requires { Kept rows.pixels.now rows.w begin part.old }
     ensures { Sized rows.entry.pixels.now rows.entry.w part.old result part.new }
@@ -166,6 +168,7 @@ pub fn choose(b: Bitmap, part: &mut Part) -> Chosen
     let bits = b.rows.pixels.len().div_ceil(8);
     if b.rows.w == 0 {
         part.forget();
+        // Kept, here and below: 14 is the number that a packet's flag has for bits.
         return Chosen { f: 14, bytes: bits };
     }
     part.restart(b.rows);

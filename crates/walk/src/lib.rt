@@ -24,6 +24,7 @@ pub struct Bitmap<'a> {
 
 // A place in the joined string: the next pixel and the end of its row, where the next row kept begins, the repeats of this row that
 // have not found their place, and the pixel before.
+// Kept: that it lies in some rows stays a clause, since a part keeps a cursor without the rows.
 #[derive(Clone, Copy)]
 pub struct Cursor {
     pub at: usize,
