@@ -176,13 +176,15 @@ fn long(s: &[u8], at: usize, b: usize) -> Result<Piece, Refusal>
 }
 
 // The packet with the flag b, whose fields stand at `at`.
+// Kept: the bits that `Form::of` reads are told apart here, since a second test on its answer shows in the time.
+#[tactic(auto, unfolding(format::specs::Verdict::form_of))]
 pub fn packet_at(s: &[u8], at: usize, b: usize) -> Result<Piece, Refusal>
     requires { at ≤ length s.now }
     ensures { result ≡ outlined (form_of b) b at s.now }
 {
-    match Form::of(b) {
-        Form::Short => narrow(s, at, b, 1),
-        Form::Extended => narrow(s, at, b, 2),
-        Form::Long => long(s, at, b),
+    match b % 8 {
+        0..=3 => narrow(s, at, b, 1),
+        4..=6 => narrow(s, at, b, 2),
+        _ => long(s, at, b),
     }
 }
