@@ -7,54 +7,66 @@ ghost use Rattle.format.specs.Choice.{byte_of, bit_bytes};
 ghost use Rattle.format.specs.Packing.{all_pixels};
 ghost use Rattle.bit_bytes.specs.Pixels.{PixelAt};
 
-// The pixel at i, white behind the last.
-fn pixel_at(b: &[u8], i: usize) -> usize
-    requires { all_pixels b.now ≡ true }
-    ensures { PixelAt b.now i result }
-{
-    if i < b.len() { usize::from(b[i]) } else { 0 }
+// The pixels of a bitmap, 0 or 1 each.
+#[derive(Clone, Copy)]
+pub struct Pixels<'a> {
+    pub bytes: &'a [u8],
+    pub ghost are: { all_pixels bytes.now ≡ true },
 }
 
-// Two pixels from i on as a number.
-fn two(b: &[u8], i: usize) -> usize
-    requires { (all_pixels b.now ≡ true) × (i + 2 ≤ length b.now) }
-    ensures { (result ≡ 2 * get_or b.now i 0 + get_or b.now (i + 1) 0) × (result < 4) }
-{
-    2 * usize::from(b[i]) + usize::from(b[i + 1])
-}
-
-// Eight pixels from i on as a byte, all of them there: no test for each.
-fn whole(b: &[u8], i: usize) -> usize
-    requires { (all_pixels b.now ≡ true) × (i + 8 ≤ length b.now) }
-    ensures { (result ≡ byte_of 0 8 (drop i b.now)) × (result < 256) }
-{
-    64 * two(b, i) + 16 * two(b, i + 2) + 4 * two(b, i + 4) + two(b, i + 6)
-}
-
-// Eight pixels from i on as a byte, white behind the last.
-fn eight(b: &[u8], i: usize) -> usize
-    requires { (all_pixels b.now ≡ true) × (i < length b.now) }
-    ensures { (result ≡ byte_of 0 8 (drop i b.now)) × (result < 256) }
-{
-    if 8 <= b.len() - i {
-        return whole(b, i);
+impl Pixels<'_> {
+    // The pixel at i, white behind the last.
+    fn pixel_at(self, i: usize) -> usize
+        ensures { PixelAt self.entry.bytes.now i result }
+    {
+        if i < self.bytes.len() {
+            usize::from(self.bytes[i])
+        } else {
+            0
+        }
     }
-    let mut v: usize = 0;
-    for j in i..i + 8 {
-        v = 2 * v + pixel_at(b, j);
+
+    // Two pixels from i on as a number.
+    fn two(self, i: usize) -> usize
+        requires { i + 2 ≤ length self.bytes.now }
+        ensures { (result ≡ 2 * get_or self.entry.bytes.now i 0 + get_or self.entry.bytes.now (i + 1) 0) × (result < 4) }
+    {
+        2 * usize::from(self.bytes[i]) + usize::from(self.bytes[i + 1])
     }
-    v
+
+    // Eight pixels from i on as a byte, all of them there: no test for each.
+    fn whole(self, i: usize) -> usize
+        requires { i + 8 ≤ length self.bytes.now }
+        ensures { (result ≡ byte_of 0 8 (drop i self.entry.bytes.now)) × (result < 256) }
+    {
+        64 * self.two(i) + 16 * self.two(i + 2) + 4 * self.two(i + 4) + self.two(i + 6)
+    }
+
+    // Eight pixels from i on as a byte, white behind the last.
+    fn eight(self, i: usize) -> usize
+        requires { i < length self.bytes.now }
+        ensures { (result ≡ byte_of 0 8 (drop i self.entry.bytes.now)) × (result < 256) }
+    {
+        if 8 <= self.bytes.len() - i {
+            return self.whole(i);
+        }
+        let mut v: usize = 0;
+        for j in i..i + 8 {
+            v = 2 * v + self.pixel_at(j);
+        }
+        v
+    }
 }
 
 // The bits of all pixels, from the byte at `at` on; spare bits are zero. It answers the place behind.
-pub fn write_bits(b: &[u8], buf: &mut [u8], at: usize) -> usize
-    requires { (all_pixels b.now ≡ true) × (length b.now ≤ 65536) × (at + bytes_of_bits (length b.now) ≤ length buf.old) }
-    ensures value { result ≡ at + bytes_of_bits (length b.now) }
-    ensures buf_after { buf.new ≡ take at buf.old ++ (bit_bytes (bytes_of_bits (length b.now)) b.now ++ drop result buf.old) }
+pub fn write_bits(b: Pixels, buf: &mut [u8], at: usize) -> usize
+    requires { (length b.bytes.now ≤ 65536) × (at + bytes_of_bits (length b.bytes.now) ≤ length buf.old) }
+    ensures value { result ≡ at + bytes_of_bits (length b.entry.bytes.now) }
+    ensures buf_after { buf.new ≡ take at buf.old ++ (bit_bytes (bytes_of_bits (length b.entry.bytes.now)) b.entry.bytes.now ++ drop result buf.old) }
 {
-    let n = b.len().div_ceil(8);
+    let n = b.bytes.len().div_ceil(8);
     for k in 0..n {
-        buf[at + k] = eight(b, 8 * k) as u8;
+        buf[at + k] = b.eight(8 * k) as u8;
     }
     at + n
 }

@@ -2,7 +2,6 @@
 use Prim.Native.Nat.{ℕ}
 use mathlib.Core.Path.{◌≡◌, refl, sym, ap, ◌∙◌}
 use mathlib.Core.List.{List}
-use native.Mathlib.Omega.{arith}
 use lib.ListN.{length}
 use Rattle.format.specs.Refusals.{no_such_code, Answer, gives, refused, answers, lent, fault, number_and_place, told, refuses, answer_at}
 use Rattle.format.specs.Numbers.{Bytes}
@@ -59,7 +58,7 @@ accepted font b a n e h = let t = (accepted_exactly font b a h n).0 e in (t.0, t
 
 refused_told : (v : Answer Parts) (code room number place : ℕ) → refuses number place ≡ told (answers chars v) → refuses number place ≡ told (answers (λ t. t.0) (draw_from code room v))
 unfolding told answers draw_from
-refused_told (gives x) code room number place e = absurd (let z : ◌≡◌ {A = ℕ} 0 1 = cc in omega arith)
+refused_told (gives x) code room number place e = cc
 refused_told (refused y at) code room number place e =
     let i : number ≡ (number_and_place y at).0 = cc in
     let j : place ≡ (number_and_place y at).1 = cc in
@@ -67,7 +66,7 @@ refused_told (refused y at) code room number place e =
 
 refused_lent : (v : Answer Parts) (code : ℕ) (buffer : List ℕ) (number place : ℕ) → refuses number place ≡ told (answers chars v) → buffer ≡ lent (λ t. t.1) (draw_from code (length buffer) v) buffer
 unfolding told answers draw_from lent
-refused_lent (gives x) code buffer number place e = absurd (let z : ◌≡◌ {A = ℕ} 0 1 = cc in omega arith)
+refused_lent (gives x) code buffer number place e = cc
 refused_lent (refused y at) code buffer number place e = refl
 
 -- The font's own refusal is given, and the buffer stays.

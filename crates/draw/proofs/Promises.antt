@@ -5,7 +5,6 @@ use Prim.Native.Nat.{ℕ, ◌*◌, ◌%◌, ◌≤◌}
 use mathlib.Core.Path.{◌≡◌, refl, sym, ap, ◌∙◌, subst}
 use mathlib.Core.Logic.{⊎_elim}
 use mathlib.Core.List.{List, ◌++◌}
-use native.Mathlib.Omega.{arith}
 use lib.ListN.{length, drop}
 use Rattle.format.specs.Limits.{most}
 use Rattle.format.specs.Refusals.{Refusal, no_such_code, no_room, Answer, gives, refused, answers, lent, says, refuses, told}
@@ -60,7 +59,7 @@ module _ (s : List ℕ) (code : ℕ) (buffer : List ℕ) (r : Result Measures Re
   refused_untouched number place e = go (draw s code (length buffer)) refl
     where
       go : (a : Answer (F.Measures × List ℕ)) → draw s code (length buffer) ≡ a → after ≡ buffer
-      go (gives t) q = absurd (let z = sym e ∙ answer_of (gives t) q in let z : ◌≡◌ {A = ℕ} 0 1 = cc in omega arith)
+      go (gives t) q = let z = sym e ∙ answer_of (gives t) q in cc
       go (refused x at) q = buffer_of (refused x at) q
 
   -- A font at fault is refused as it is checked, whatever the code and the buffer.

@@ -4,7 +4,6 @@ use Prim.Native.Nat.{ℕ}
 use mathlib.Core.Path.{◌≡◌, refl, sym, ap, ◌∙◌}
 use mathlib.Core.Logic.{◌↔◌}
 use mathlib.Core.List.{List}
-use native.Mathlib.Omega.{arith}
 use Rattle.format.specs.Refusals.{Refusal, Answer, gives, refused, told}
 use Rattle.format.specs.Numbers.{Bytes}
 use Rattle.format.specs.Cut.{Parts, chars, Cut}
@@ -39,7 +38,7 @@ module _ (s : List ℕ) (b : Bytes s) (r : Result ℕ Refused) (promised : in_nu
     where
       go : (x : Answer ℕ) → to_result x ≡ Ok n → x ≡ gives n
       go (gives m) e = let z : m ≡ n = cc in ap gives z
-      go (refused x place) e = absurd (let z : ◌≡◌ {A = ℕ} 0 1 = cc in omega arith)
+      go (refused x place) e = cc
 
   -- It is a refusal at a place exactly if that row of 01 holds there, with everything before in order.
   pub refused_exactly : (x : D.Refusal) (place : ℕ) → (r ≡ Err (record { refusal = x; place = place })) ↔ ((y : Refusal) × (x ≡ coded y) × Means s y place)
@@ -48,7 +47,7 @@ module _ (s : List ℕ) (b : Bytes s) (r : Result ℕ Refused) (promised : in_nu
       ((λ e. go (check s) refl (sym answer_is ∙ e)), (λ t. answer_is ∙ ap to_result ((check_refuses s t.0 place b).1 t.2) ∙ rw t.1 refl))
     where
       go : (a : Answer ℕ) → check s ≡ a → to_result a ≡ Err (record { refusal = x; place = place }) → (y : Refusal) × (x ≡ coded y) × Means s y place
-      go (gives m) q e = absurd (let z : ◌≡◌ {A = ℕ} 0 1 = cc in omega arith)
+      go (gives m) q e = cc
       go (refused y at) q e =
           let k : refused_at y at ≡ record { refusal = x; place = place } = cc in
           let z : coded y ≡ x = ap (λ (t : Refused). t.refusal) k in

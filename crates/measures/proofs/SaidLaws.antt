@@ -6,8 +6,8 @@ use native.Mathlib.Omega.{arith}
 use lib.IntN.{ℤ, pos}
 use lib.ListN.{drop}
 use lib.Seq.{drop-drop}
-use mir.Syntax.{w32, w64}
-use mir.Val.{Fits, SFits, to_z, of_z}
+use mir.Syntax.{w64}
+use mir.Val.{SFits, to_z, of_z}
 use mir.Facts.{to_z_pos, to_z-of_z}
 use Rattle.format.specs.Numbers.{signed}
 use Rattle.format.specs.Measures as F
@@ -15,17 +15,12 @@ use Rattle.format.specs.Measures.{pixels, to_scaled}
 use Rattle.format.specs.Pieces.{long}
 use Rattle.format.specs.Decoding.{number, value_of, read_fields}
 use Rattle.fields.specs.Field.{NumberAt}
-use Rattle.fields.proofs.Rebuilt.{values_most}
 use Rattle.escapement.specs.Count.{scaled_of}
 use Rattle.escapement.specs.declared.Scaled.{Scaled}
 use Rattle.packet.specs.Outlines.{narrow_form}
 use Rattle.packet.specs.declared.Outline.{Outline}
 use Rattle.measures.specs.Said.{said, said_by, Small}
 use Rattle.measures.specs.declared.Measures.{Measures}
-
--- A number of at most two bytes fits 32 bits.
-pub dm_fits : (s : List ℕ) (at m n : ℕ) → m ≤ 2 → NumberAt s at m n → Fits w32 n
-dm_fits s at m n l x = omega (arith, x.small, values_most m 2 l)
 
 -- The signed value of the k bytes from a place on.
 abbrev value_at : List ℕ → ℕ → ℕ → ℤ

@@ -34,7 +34,7 @@ limits_both zero h l k = absurd (omega arith)
 limits_both (suc w) zero l k = absurd (omega arith)
 limits_both (suc w) (suc h) l k = refl
 
--- and one that is alone too large makes the product so,
+-- and one that is alone too large makes the product so.
 limits_large : (w h : ℕ) → 0 < w → 0 < h → 65536 < w * h → false ≡ in_limits w h
 limits_large w h l k m = sym (lt-leb (w * h) 65536 m) ∙ limits_both w h l k
 
@@ -43,10 +43,6 @@ limits_wide w h l k = limits_large w h (omega arith) k (let p = mul-le-mul_left 
 
 pub limits_high : (w h : ℕ) → 0 < w → 65536 < h → false ≡ in_limits w h
 limits_high w h l k = limits_large w h l (omega arith) (let p = mul-le-mul_right {m = 1} {n = w} h (omega arith) in omega arith)
-
--- else it is not large.
-pub both_small : (w h : ℕ) → w ≤ 65536 → h ≤ 65536 → w * h ≤ 4294967296
-both_small w h l k = let p = mul-le-mul_right {m = w} {n = 65536} h l in omega arith
 
 -- Fields as the numbers that their bytes are.
 

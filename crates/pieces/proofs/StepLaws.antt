@@ -1,10 +1,9 @@
 -- The piece that a first byte begins, by the byte, and at a place. Assumes nothing.
-use Prim.Native.Nat.{ℕ, suc, ◌+◌, ◌-◌, ◌≤◌, ◌<◌}
+use Prim.Native.Nat.{ℕ, ◌-◌, ◌≤◌, ◌<◌}
 use mathlib.Core.Path.{◌≡◌, refl, ◌∙◌}
 use mathlib.Core.List.{List, ◌∷◌}
 use native.Mathlib.Omega.{arith}
-use lib.ListN.{length, drop, get_or, length-drop, drop_of_length-le}
-use lib.Seq.{drop-cons}
+use lib.ListN.{length, drop, length-drop, drop_of_length-le}
 use borrow.Author.Tests.{lt-ltb, le-ltb, ne_eqb}
 use Rattle.format.specs.Pieces.{length_kind}
 use Rattle.format.specs.Decoding.{number, value_of}
@@ -68,10 +67,3 @@ module _ (s : List ℕ) (at b : ℕ) where
 pub piece_ends : (s : List ℕ) (at : ℕ) → length s ≤ at → Err (coded file_ends) ≡ piece_of (length s) (step (drop at s))
 unfolding step piece_of
 piece_ends s at h = rw (drop_of_length-le s h) refl
-
--- A place in the font.
-pub piece_begins : (s : List ℕ) (at b : ℕ) (r : Result Piece Refusal) → at < length s → b ≡ get_or s at 0 → r ≡ piece_of (length s) (step (b ∷ drop (at + 1) s))
-    → r ≡ piece_of (length s) (step (drop at s))
-piece_begins s at b r h e q =
-    let i : at + 1 ≡ suc at = omega arith in
-    q ∙ rw (drop-cons s at 0 h, e, i) refl

@@ -1,6 +1,5 @@
-use native.Mathlib.Omega.{arith}
 use Rattle.std.proofs.lemmas.Result.{err_from_is_err_and}
-use Rattle.format.proofs.FieldLaws.{bytes_of_lem}
+use Rattle.packet.proofs.StandingLaws.{bytes_fit}
 use Rattle.draw.proofs.CodeLaws.{accepted, refused_answer, refused_pixels}
 use Rattle.draw.proofs.draw.Goals as goal
 
@@ -14,4 +13,4 @@ returns-in_err-check c =
 
 pub draw_accepted-requires : goal.draw_accepted-requires
 draw_accepted-requires c =
-    accepted c.args.font.now (bytes_of_lem c.args.font.now (λ i. omega (arith, c.type_inv.font i))) _ _ c.in_ok-check.was c.check.ensures
+    accepted c.args.font.now (bytes_fit _ c.type_inv.font) _ _ c.in_ok-check.was c.check.ensures

@@ -1,20 +1,17 @@
 use mathlib.Core.Path.{ap, ◌∙◌}
 use native.Mathlib.Omega.{arith}
 use Rattle.std.specs.Prelude.{Ok}
-use Rattle.format.proofs.FieldLaws.{bytes_of_lem}
+use Rattle.packet.proofs.StandingLaws.{bytes_fit}
 use Rattle.font.proofs.GoingLaws.{going_start, goes}
 use Rattle.font.proofs.onward.Goals as goal
 
 pub loop-code-init : goal.loop-code-init
 loop-code-init c =
     let a = c.args in
-    going_start a.font.now a.start _ (bytes_of_lem a.font.now (λ i. omega (arith, c.type_inv.font i))) (omega arith) c.none_seen-seen.ensures
+    going_start a.font.now a.start _ (bytes_fit _ c.type_inv.font) (omega arith) c.none_seen-seen.ensures
 
 pub bounds-seen-code : goal.bounds-seen-code
 bounds-seen-code c = (goes _ _ _ _ _ c.loop-code.invariant _ _ c.turn_at.ensures (c.in-Ok-Packet.is ∙ ap Ok c.in-Ok-Packet.field-0-is)).1
-
-pub overflow_add-chars : goal.overflow_add-chars
-overflow_add-chars c = omega (arith, c.loop-code.invariant.few, c.loop-code.invariant.upto)
 
 pub loop-code-smaller-in-Ok-Packet : goal.loop-code-smaller-in-Ok-Packet
 loop-code-smaller-in-Ok-Packet c =

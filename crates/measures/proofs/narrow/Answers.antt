@@ -1,9 +1,6 @@
 use native.Mathlib.Omega.{arith}
-use Rattle.measures.proofs.SaidLaws.{dm_fits, narrow_said}
+use Rattle.measures.proofs.SaidLaws.{narrow_said}
 use Rattle.measures.proofs.narrow.Goals as goal
-
-pub overflow_cast-dm : goal.overflow_cast-dm
-overflow_cast-dm c = dm_fits _ _ _ _ (omega arith) c.number_at-dm.ensures
 
 pub returns : goal.returns
 returns c =

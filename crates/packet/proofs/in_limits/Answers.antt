@@ -1,10 +1,7 @@
 use Rattle.std.proofs.Common.{rules, arith}
 use Rattle.std.proofs.lemmas.Grind.{common_steps}
-use Rattle.packet.proofs.LimitLaws.{limits_zero, limits_flat, limits_both, limits_wide, limits_high, both_small}
+use Rattle.packet.proofs.LimitLaws.{limits_zero, limits_flat, limits_both, limits_wide, limits_high}
 use Rattle.packet.proofs.in_limits.Goals as goal
-
-pub overflow_mul-result : goal.overflow_mul-result
-overflow_mul-result c = omega (arith, both_small)
 
 pub returns-then-w-eq0 : goal.returns-then-w-eq0
 returns-then-w-eq0 c = grind (arith, common_steps, limits_zero, limits_flat)

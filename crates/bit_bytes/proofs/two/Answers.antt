@@ -1,5 +1,0 @@
-use Rattle.bit_bytes.proofs.EightLaws.{two_is}
-use Rattle.bit_bytes.proofs.two.Goals as goal
-
-pub returns : goal.returns
-returns c = two_is _ _ c.requires.0 c.from.ensures c.from-2.ensures

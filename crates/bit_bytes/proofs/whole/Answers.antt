@@ -1,7 +1,0 @@
-use Rattle.bit_bytes.proofs.EightLaws.{whole_is}
-use Rattle.bit_bytes.proofs.whole.Goals as goal
-
-pub returns : goal.returns
-returns c =
-    let a = c.args in
-    whole_is a.b.now a.i _ _ _ _ c.two.ensures c.two-2.ensures c.two-3.ensures c.two-4.ensures
