@@ -12,6 +12,7 @@ ghost use Rattle.part.specs.Parts.{First};
 ghost use Rattle.pack.specs.Answer.{in_numbers};
 ghost use Rattle.pack.specs.Bitmaps.{Bitmap, raster_for};
 
+use bit_bytes::Pixels;
 use measures::Measures;
 use packed::Factor;
 use part::Part;
@@ -65,7 +66,13 @@ fn write_raster(b: walk::Bitmap, f: usize, part: &mut Part, buf: &mut [u8], at: 
     ensures buf_after { buf.new ≡ take at buf.old ++ (raster_for f b.entry.rows.w b.entry.h b.entry.rows.pixels.now ++ drop result buf.old) }
 {
     match Factor::new(f) {
-        None => bit_bytes::write_bits(b.rows.pixels, buf, at),
+        None => bit_bytes::write_bits(
+            Pixels {
+                bytes: b.rows.pixels,
+            },
+            buf,
+            at,
+        ),
         Some(f) => run_bytes::write_runs(b, f, part, buf, at),
     }
 }

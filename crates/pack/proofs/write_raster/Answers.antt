@@ -10,7 +10,7 @@ pub write_bits-requires : goal.write_bits-requires
 write_bits-requires c =
     let l = c.in-None.ensures.none.0 refl in
     let n = bits_long c.args.f c.args.b.rows.w c.args.b.h c.args.b.rows.pixels.now (omega arith) in
-    (c.requires.2, c.args.b.small, omega (arith, n, c.requires.4))
+    (c.args.b.small, omega (arith, n, c.requires.4))
 
 pub returns-in-None : goal.returns-in-None
 returns-in-None c =
