@@ -97,6 +97,7 @@ fn bitmap_case<W: Write>(out: &mut W, fields: &[u8], bitmap: &[u8]) -> io::Resul
 }
 
 // How many bytes the head of a case has that begins with this byte.
+// Kept: the kind of a case is a byte of standard input.
 fn head_of(kind: u8) -> usize
     ensures { 4 ≤ result }
 {
