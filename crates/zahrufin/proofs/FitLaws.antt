@@ -51,7 +51,7 @@ Near x at = at ≤ 65536
 -- A refusal at such a place, in 01's numbers.
 told_fits : {A : Type 0} (a : Answer A) (n p : ℕ) → IfRefused Near a → refuses n p ≡ told a → (n < 2 ^ 32) × (p < 2 ^ 32)
 unfolding told
-told_fits (gives x) n p l e = absurd (let z : ◌≡◌ {A = ℕ} 0 1 = cc in omega arith)
+told_fits (gives x) n p l e = cc
 told_fits (refused x at) n p l e =
     let i : n ≡ (number_and_place x at).0 = cc in
     let j : p ≡ (number_and_place x at).1 = cc in
@@ -123,7 +123,7 @@ unfolding told join
 chars_fit s n b e = go (check s) refl e
   where
     go : (a : Answer ℕ) → check s ≡ a → says n ≡ told a → n < 2 ^ 32
-    go (refused x at) q e = absurd (let z : ◌≡◌ {A = ℕ} 0 1 = cc in omega arith)
+    go (refused x at) q e = cc
     go (gives k) q e =
         let z : n ≡ k = cc in
         let (x, c, i) = (counts_chars s k b).0 q in
@@ -137,7 +137,7 @@ unfolding told pack_answer answers
 length_fits b m buffer n e = go (pack b m (length buffer)) refl e
   where
     go : (a : Answer (List ℕ)) → pack b m (length buffer) ≡ a → says n ≡ told (answers length a) → n < 2 ^ 32
-    go (refused x at) q e = absurd (let z : ◌≡◌ {A = ℕ} 0 1 = cc in omega arith)
+    go (refused x at) q e = cc
     go (gives bytes) q e = let z : n ≡ length bytes = cc in omega (arith, (packed_is b m (length buffer) bytes q).few)
 
 pub check_fits : (s : List ℕ) (n p : ℕ) → Bytes s → refuses n p ≡ told (check s) → (n < 2 ^ 32) × (p < 2 ^ 32)

@@ -1,6 +1,6 @@
 -- What C is handed, from the answers of the three calls. Assumes nothing.
 use Prim.Native.Nat.{ℕ}
-use mathlib.Core.Path.{◌≡◌, sym, ap, ◌∙◌}
+use mathlib.Core.Path.{◌≡◌, ap}
 use Rattle.format.specs.Refusals.{Told, says, refuses}
 use Rattle.format.specs.Measures as F
 use Rattle.zahrufin.specs.Handed.{plain_of, no_measures, checked_for, drawn_for, packed_for}
