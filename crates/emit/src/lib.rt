@@ -8,8 +8,8 @@ ghost use Rattle.emit.specs.Nybbles.{put_one, put_all};
 use packed::Factor;
 
 // The nybble x at i.
-// Kept, here and in run_bytes, bit_bytes and head: a buffer and a place go in, and the place behind comes back. A struct that holds a
-// &mut buffer would say what is written in clauses on loans, where these are equations.
+// Kept, here and wherever a buffer is written (fill, bits, run_bytes, bit_bytes, head): a buffer and a place go in, and the place behind comes
+// back. A struct that holds a &mut buffer would say what is written in clauses on loans, where these are equations.
 #[tactic(auto, using(crate::proofs::PutLaws::put_even, crate::proofs::PutLaws::put_odd))]
 pub fn put_nybble(buf: &mut [u8], i: usize, x: usize)
     requires { (i < 2 * length buf.old) × (x < 16) }

@@ -10,6 +10,7 @@ ghost use Rattle.fields.specs.Field.{NumberAt};
 pub const NEGATIVE: u64 = 2147483648;
 
 // How many values k bytes have.
+// (Kept, here and in pieces and head: k is a number of bytes, which is added and multiplied. std has no integer of three bytes.)
 pub fn values_of(k: usize) -> u64
     requires { k ≤ 4 }
     ensures { result ≡ 256 ^ k }

@@ -14,6 +14,7 @@ use packet::{Outline, Piece};
 use refusals::{Refusal, Refused};
 
 // A piece judged: a packet's code and the place behind it; the place behind a command; the 245.
+// (Kept beside packet::Piece: of a packet judged nothing else is asked, and a copy of its outline shows in the time.)
 #[derive(Clone, Copy)]
 enum Turn {
     Packet(usize, usize),

@@ -56,7 +56,7 @@ fn put_head(buf: &mut [u8], flag: u64, fields: [Field; 9]) -> usize
 }
 
 // The same for a short packet, which nearly every one is: its bytes at once.
-// Kept: nine numbers and not the fields, since this form knows their widths.
+// Kept: nine numbers and not the fields, whose loop would cost the packing of a small bitmap a tenth of its time.
 fn put_short(
     buf: &mut [u8],
     flag: u64,
@@ -98,7 +98,8 @@ fn twos(z: i64, k: usize) -> u64
     if z < 0 { top - 1 - n } else { n }
 }
 
-// The flag: f, the black bit, and the form's bits.
+// The flag: f, the black bit, and the form's bits, in which the upper part of the length stands too.
+// (Kept, here and below: f and the black bit are of the raster, the measures of the caller, the form of `pick`: no struct has them all.)
 fn flag_of(f: usize, black: bool, form: u64) -> u64
     requires { (f ≤ 14) × (form < 8) }
     ensures { (result ≡ 16 * f + black_bit black + form) × (result < 256) }

@@ -16,7 +16,7 @@ pub enum Item {
     Repeat(usize, usize),
 }
 
-// Where a number is wanted and none is read.
+// Where a number is wanted and none is read. (Kept: no From, since neither type is of this crate.)
 fn refusal_of(unread: Unread) -> Refusal
     ensures { result ≡ refusal_of unread }
 {
@@ -52,7 +52,7 @@ pub fn other_at(s: &[u8], at: usize, f: Factor, repeat: usize) -> Result<Item, R
     if x == 15 {
         return Ok(Item::Repeat(1, at + 1));
     }
-    // Kept, though `number_at` would read it too: one call fewer for most repeats, which shows in the time.
+    // Kept, though `number_at` would read it too: without it judging was slower (docs/SPEED.md).
     if let Some(short) = packed::short_at(s, at + 1, f) {
         return Ok(Item::Repeat(short.n, short.next));
     }

@@ -52,7 +52,7 @@ pub fn print_marked<W: Write>(out: &mut W, bytes: &[u8], n: usize) -> io::Result
 }
 
 // The pixels of w by h, and 0 where w or h is above 65,536.
-// (Kept: 0 is what `area_of` promises.)
+// (Kept: no pixels are printed then; an Option would be turned into 0 at each call.)
 #[tactic(auto, unfolding(crate::specs::Marks::area_of))]
 pub fn area(w: u64, h: u64) -> usize
     ensures { result ≡ area_of w h }

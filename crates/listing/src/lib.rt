@@ -78,7 +78,7 @@ fn entry_at(font: &[u8], at: usize, x: Outline) -> Entry
 }
 
 // The next packet from a place on where a piece or the ending begins, with the place behind it; or that no packet follows.
-// Kept: the loop goes on at the place that each piece says, so it counts no index.
+// Kept: the loop goes on at the place that each piece says, so it counts no index; what is done with a packet is not what find does.
 pub fn next_packet(font: &[u8], start: usize) -> Option<(Entry, usize)>
     requires { Between font.now start }
     ensures { IsNext font.now start result }

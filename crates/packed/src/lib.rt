@@ -7,8 +7,8 @@ ghost use Rattle.format.specs.Decoding.{digits, zeros, shift};
 ghost use Rattle.packed.specs.Answer.{from, to_read, read_at, Skipped, IsShort};
 
 // A number that is read, 65,537 for any above 65,536, and the place of the next nybble.
-// Kept, here and in items and judge: a slice and a place go in, and the next place comes back. What is read may be looked at before it is
-// taken, and the contracts are equations in the place.
+// Kept, here and wherever a slice is read: a slice and a place go in, and where it is asked for the next place comes back. What is read may be
+// looked at before it is taken, and the contracts are equations in the place.
 #[derive(Clone, Copy)]
 pub struct Number {
     pub n: usize,

@@ -67,7 +67,7 @@ impl Part {
     }
 
     // The next runs from c on, as many as there is room for.
-    fn fill(&mut self, rows: Rows, c: Cursor)
+    pub fn fill(&mut self, rows: Rows, c: Cursor)
         requires { Inside rows.pixels.now rows.w c }
         ensures { Kept rows.entry.pixels.now rows.entry.w c self.new }
     {

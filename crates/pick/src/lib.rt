@@ -35,7 +35,7 @@ fn held_plain(z: i64, top: u64) -> bool
 fn narrow_held(m: Measures, dm: Pixels, top: u64, half: u64) -> bool
     ensures { result ≡ narrow_in top half (whole_of dm) (said m) }
 {
-    // Kept: & and not &&, each of whose tests would be a case of the proof.
+    // & and not &&: no test is worth leaving early.
     (Scaled::from(dm) == m.dx)
         & (m.dy == Scaled(0))
         & held_plain(m.tfm, 16777216)
@@ -51,7 +51,6 @@ fn long_held(m: Measures) -> bool
     ensures { result ≡ long_in (said m) }
 {
     let half: u64 = 2147483648;
-    // Kept: & and not &&, as above.
     (sign::magnitude(m.tfm) < half)
         & (sign::magnitude(m.dx.0) < half)
         & (sign::magnitude(m.dy.0) < half)

@@ -8,7 +8,7 @@ ghost use Rattle.state.specs.Moves.{plain, coloured, moved_to, Within};
 use refusals::Refusal;
 
 // The column and the row that come next, the repeat that the row has had (0 for none), and whether the next run is black.
-// (Kept, here and in walk and part: a repeat is the number of rows that are sent again, and 0 is one of its values.)
+// (Kept, here and in walk, part, size and run_bytes: a repeat is the number of rows that are sent again, and 0 is one of its values.)
 #[derive(Clone, Copy)]
 pub struct State {
     pub column: usize,

@@ -13,7 +13,7 @@ ghost use Rattle.zahrufin.specs.Handed.{measures_of, plain_of, no_measures, chec
 use escapement::Scaled;
 use measures::Measures;
 
-// zahrufin_measures.
+// zahrufin_measures. (Kept, here and in zahrufin_c: these structs and their numbers are what C has.)
 #[repr(C)]
 #[derive(Clone, Copy, Debug, PartialEq, Eq)]
 pub struct PlainMeasures {
