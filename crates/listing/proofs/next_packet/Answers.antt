@@ -1,9 +1,6 @@
 use native.Mathlib.Omega.{arith}
-use Rattle.listing.proofs.NextLaws.{going_start, goes}
+use Rattle.listing.proofs.NextLaws.{goes}
 use Rattle.listing.proofs.next_packet.Goals as goal
-
-pub loop-x-init : goal.loop-x-init
-loop-x-init c = going_start _ _ c.requires
 
 pub entry_at-requires : goal.entry_at-requires
 entry_at-requires c = (goes _ _ _ _ c.loop-x.invariant (rw c.in-Ok-Packet.field-0-is at c.in-Ok-Packet.ensures)).0

@@ -6,16 +6,13 @@ use mathlib.Core.List.{◌++◌}
 use lib.ListN.{length, drop}
 use Rattle.measures.specs.Said.{said}
 use Rattle.head.specs.Head.{head_for, head_length}
-use Rattle.pack.proofs.PacketLaws.{none_refused, short_refused, done_answer, done_buffer, choice_f, choice_bytes_lem, head_small}
+use Rattle.pack.proofs.PacketLaws.{none_refused, short_refused, done_answer, done_buffer, choice_f, choice_bytes_lem}
 use Rattle.pack.proofs.pack_judged.Goals as goal
 
 pub returns-in_default : goal.returns-in_default
 returns-in_default c =
     let e = none_refused _ _ _ _ c.requires c.args.buf.now c.choose-chosen.result c.choose-chosen.ensures.chosen c.in_default.ensures in
     rw c.at.ensures (record { result_value = e.0; buf_after = e.1 })
-
-pub overflow_add-head : goal.overflow_add-head
-overflow_add-head c = omega (arith, c.head_length-head.ensures, head_small c.in-Some.form, c.choose-chosen.ensures.chosen.most)
 
 pub returns-then-buf-head : goal.returns-then-buf-head
 returns-then-buf-head c =

@@ -1,12 +1,9 @@
 use mathlib.Core.Path.{◌≡◌}
 use Prim.Native.Nat.{◌+◌, ◌/◌}
 use native.Mathlib.Omega.{arith}
-use Rattle.walk.proofs.BeginLaws.{begin_inside, begin_items}
+use Rattle.walk.proofs.BeginLaws.{begin_items}
 use Rattle.run_bytes.proofs.WritingLaws.{room_halves, halves_end, halves_are}
 use Rattle.run_bytes.proofs.write_runs.Goals as goal
-
-pub first-requires : goal.first-requires
-first-requires c = let b = c.args.b in (begin_inside _ _ _ c.requires.0 b.size b.small, c.requires.1)
 
 pub write_nybbles-requires : goal.write_nybbles-requires
 write_nybbles-requires c =

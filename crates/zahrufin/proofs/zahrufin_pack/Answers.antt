@@ -13,11 +13,5 @@ overflow_cast-result-in-Err c = record { fits = (pack_fits _ _ _ _ _ (not_given 
 pub returns-in-Ok-clause-value : goal.returns-in-Ok-clause-value
 returns-in-Ok-clause-value c = rw (← c.from.ensures) (packed_says _ _ (given (λ (n : ℕ). n) _ _ c.pack.ensures.result_value _ c.in-Ok.is))
 
-pub returns-in-Ok-clause-packet_after : goal.returns-in-Ok-clause-packet_after
-returns-in-Ok-clause-packet_after c = rw (← c.from.ensures) c.pack.ensures.packet_after
-
 pub returns-in-Err-clause-value : goal.returns-in-Err-clause-value
 returns-in-Err-clause-value c = rw (c.number.ensures, ← c.from.ensures) (packed_refuses _ _ _ (not_given (λ (n : ℕ). n) _ _ c.pack.ensures.result_value _ c.in-Err.is))
-
-pub returns-in-Err-clause-packet_after : goal.returns-in-Err-clause-packet_after
-returns-in-Err-clause-packet_after c = rw (← c.from.ensures) c.pack.ensures.packet_after
