@@ -154,14 +154,12 @@ fn long_values(m: Measures, x: i64, y: i64, length: u64) -> [Field; 9]
     requires { (mag m.tfm < 4294967296) × ScaledBelow 4294967296 (scaled_of m.dx) × ScaledBelow 4294967296 (scaled_of m.dy) × (mag x < 4294967296) × (mag y < 4294967296) × (x ≡ m.hoff) × (y ≡ m.voff) }
     ensures { result ≡ long_values (said m) length }
 {
-    let dx = m.dx;
-    let dy = m.dy;
     let code = sign::magnitude(m.code);
     let w = sign::magnitude(m.w);
     let h = sign::magnitude(m.h);
     let tfm = twos(m.tfm, 4);
-    let across = twos(dx.0, 4);
-    let down = twos(dy.0, 4);
+    let across = twos(m.dx.0, 4);
+    let down = twos(m.dy.0, 4);
     let hoff = twos(x, 4);
     let voff = twos(y, 4);
     [
