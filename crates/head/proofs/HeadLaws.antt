@@ -21,6 +21,7 @@ use Rattle.format.proofs.FieldLaws.{Held, held_is, value_twos}
 use Rattle.format.proofs.FormLaws.{values_for, values_for_lem, holds_for, first_of}
 use Rattle.escapement.specs.Count.{whole_of}
 use Rattle.escapement.specs.declared.Pixels.{Pixels}
+use Rattle.std.specs.Prelude.{Some}
 use Rattle.pick.specs.Picks.{Judged, tried, IsPicked}
 use Rattle.pick.specs.declared.Picked.{Picked}
 use Rattle.pick.specs.declared.Picked.TheVariants.{Short, Extended, Long}
@@ -258,7 +259,7 @@ ready l f m n k a b j r e = record { most = a; few = b; judged = j; held = (firs
 
 -- What writing asks of the form picked.
 abbrev Asked : List ℕ → ℕ → F.Measures → ℕ → Picked → Type 0
-Asked l f m n p = (f ≤ 14) × (n ≤ 8192) × Judged m × IsPicked m n p × (head_length p ≤ length l)
+Asked l f m n p = (f ≤ 14) × (n ≤ 8192) × Judged m × IsPicked m n p × (head_length (Some p) ≤ length l)
 
 -- A form picked may be written, with its offsets as the machine reads them.
 module _ (l : List ℕ) (f : ℕ) (m : F.Measures) (n : ℕ) (p : Picked) (h : Asked l f m n p) where
@@ -291,7 +292,7 @@ module _ (l : List ℕ) (f : ℕ) (m : F.Measures) (n : ℕ) (p : Picked) (h : A
 
 -- What was written is the head of the form picked.
 pub wrote_picked : (f : ℕ) (black : Bool) (m : F.Measures) (n : ℕ) (l d : List ℕ) {r : ℕ} (p q : Picked) → p ≡ q
-    → (r ≡ head_length q) × (d ≡ head_for f black m n q ++ drop (head_length q) l) → (r ≡ head_length p) × (d ≡ head_for f black m n p ++ drop r l)
+    → (r ≡ head_length (Some q)) × (d ≡ head_for f black m n (Some q) ++ drop (head_length (Some q)) l) → (r ≡ head_length (Some p)) × (d ≡ head_for f black m n (Some p) ++ drop r l)
 wrote_picked f black m n l d {r} p q e g =
-    subst (λ (x : Picked). (r ≡ head_length x) × (d ≡ head_for f black m n x ++ drop r l)) (sym e)
-    (g.0, g.1 ∙ ap (λ (x : ℕ). head_for f black m n q ++ drop x l) (sym g.0))
+    subst (λ (x : Picked). (r ≡ head_length (Some x)) × (d ≡ head_for f black m n (Some x) ++ drop r l)) (sym e)
+    (g.0, g.1 ∙ ap (λ (x : ℕ). head_for f black m n (Some q) ++ drop x l) (sym g.0))

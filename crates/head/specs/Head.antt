@@ -1,5 +1,6 @@
 -- What the functions of this crate write. Assumes nothing: these are definitions.
-use Rattle.std.specs.Prelude.{ℕ, ◌+◌, ◌^◌, ◌≤◌, ◌<◌, ◌≡◌, Bool, true, List, [], ◌∷◌, ◌++◌, length, replicate}
+use Rattle.std.specs.Prelude.{ℕ, ◌+◌, ◌^◌, ◌≤◌, ◌<◌, ◌≡◌, Bool, true, List, [], ◌∷◌, ◌++◌, length, replicate, Some, None}
+use Rattle.std.specs.declared.option.Option.{Option}
 use Rattle.std.specs.Int.Signed.{mag}
 use Rattle.format.specs.Measures as F
 use Rattle.format.specs.Numbers.{bytes, twos, size, field_bytes}
@@ -16,17 +17,19 @@ use Rattle.pick.specs.declared.Picked.TheVariants.{Short, Extended, Long}
 unfoldable pub head_of : Packet → List ℕ
 head_of p = flag p ∷ field_bytes (kinds p.form) (fields p)
 
--- The same in the form picked, before n raster bytes, whatever they are.
-abbrev pub head_for : ℕ → Bool → F.Measures → ℕ → Picked → List ℕ
-head_for f black m n (Short dm x y) = head_of (in_form f black m (replicate n 0) short)
-head_for f black m n (Extended dm x y) = head_of (in_form f black m (replicate n 0) extended)
-head_for f black m n (Long x y) = head_of (in_form f black m (replicate n 0) long)
+-- The same in the form picked, before n raster bytes, whatever they are; none if no form holds.
+abbrev pub head_for : ℕ → Bool → F.Measures → ℕ → Option Picked → List ℕ
+head_for f black m n (Some (Short dm x y)) = head_of (in_form f black m (replicate n 0) short)
+head_for f black m n (Some (Extended dm x y)) = head_of (in_form f black m (replicate n 0) extended)
+head_for f black m n (Some (Long x y)) = head_of (in_form f black m (replicate n 0) long)
+head_for f black m n None = []
 
 -- How many they are.
-abbrev pub head_length : Picked → ℕ
-head_length (Short dm x y) = 11
-head_length (Extended dm x y) = 17
-head_length (Long x y) = 37
+abbrev pub head_length : Option Picked → ℕ
+head_length (Some (Short dm x y)) = 11
+head_length (Some (Extended dm x y)) = 17
+head_length (Some (Long x y)) = 37
+head_length None = 0
 
 -- Numbers in a row.
 

@@ -1,7 +1,7 @@
 // The bytes of a packet before its raster, written into a lent buffer.
 #![tactic(auto)]
 
-ghost use Rattle.std.specs.Prelude.{◌+◌, ◌*◌, ◌^◌, ◌<◌, ◌≤◌, ◌≡◌, ◌∷◌, [], ◌++◌, length, drop};
+ghost use Rattle.std.specs.Prelude.{◌+◌, ◌*◌, ◌^◌, ◌<◌, ◌≤◌, ◌≡◌, ◌∷◌, [], ◌++◌, length, drop, Some};
 ghost use Rattle.std.proofs.lemmas.List.Edits.{sets};
 ghost use Rattle.std.specs.Int.Signed.{mag};
 ghost use Rattle.format.specs.Numbers.{bytes, twos};
@@ -9,7 +9,7 @@ ghost use Rattle.format.specs.Measures.{whole_pixels};
 ghost use Rattle.format.specs.Pieces.{black_bit, short, extended, long};
 ghost use Rattle.escapement.specs.Count.{whole_of, scaled_of};
 ghost use Rattle.measures.specs.Said.{said};
-ghost use Rattle.pick.specs.Picks.{Judged, IsPicked};
+ghost use Rattle.pick.specs.Picks.{Judged, IsPicked, Picks};
 ghost use Rattle.pick.specs.declared.Picked.TheVariants.{Short, Extended, Long};
 ghost use Rattle.head.specs.Head.{head_for, head_length, numbers, total, Fit, narrow_row, narrow_values, long_values, ScaledBelow, Ready};
 
@@ -209,7 +209,7 @@ fn write_short(
     n: usize,
 ) -> usize
     requires { Ready buf.old f (said m) n short × (whole_of dm ≡ whole_pixels (scaled_of m.dx)) × (x ≡ m.hoff) × (y ≡ m.voff) }
-    ensures { (result ≡ 11) × (buf.new ≡ head_for f black (said m) n (Short dm x y) ++ drop 11 buf.old) }
+    ensures { (result ≡ 11) × (buf.new ≡ head_for f black (said m) n (Some (Short dm x y)) ++ drop 11 buf.old) }
 {
     let length = 8 + n as u64;
     let vs = narrow_values(m, 1, dm, i64::from(x), i64::from(y), length % 256);
@@ -240,7 +240,7 @@ fn write_extended(
     n: usize,
 ) -> usize
     requires { Ready buf.old f (said m) n extended × (whole_of dm ≡ whole_pixels (scaled_of m.dx)) × (x ≡ m.hoff) × (y ≡ m.voff) }
-    ensures { (result ≡ 17) × (buf.new ≡ head_for f black (said m) n (Extended dm x y) ++ drop 17 buf.old) }
+    ensures { (result ≡ 17) × (buf.new ≡ head_for f black (said m) n (Some (Extended dm x y)) ++ drop 17 buf.old) }
 {
     let length = 13 + n as u64;
     let vs = narrow_values(m, 2, dm, i64::from(x), i64::from(y), length % 65536);
@@ -251,7 +251,7 @@ fn write_extended(
 // The head of a long packet.
 fn write_long(buf: &mut [u8], f: usize, black: bool, m: Measures, x: i32, y: i32, n: usize) -> usize
     requires { Ready buf.old f (said m) n long × (x ≡ m.hoff) × (y ≡ m.voff) }
-    ensures { (result ≡ 37) × (buf.new ≡ head_for f black (said m) n (Long x y) ++ drop 37 buf.old) }
+    ensures { (result ≡ 37) × (buf.new ≡ head_for f black (said m) n (Some (Long x y)) ++ drop 37 buf.old) }
 {
     let length = 28 + n as u64;
     let vs = long_values(m, i64::from(x), i64::from(y), length);
@@ -259,26 +259,46 @@ fn write_long(buf: &mut [u8], f: usize, black: bool, m: Measures, x: i32, y: i32
     put_head(buf, flag, vs)
 }
 
-// The number of bytes before the raster in the form picked.
-pub fn head_length(k: Picked) -> usize
+// The number of bytes before the raster in the form picked; 0 where there is none.
+pub fn head_length(k: Option<Picked>) -> usize
     ensures { result ≡ head_length k }
 {
     match k {
-        Picked::Short(_, _, _) => 11,
-        Picked::Extended(_, _, _) => 17,
-        Picked::Long(_, _) => 37,
+        Some(Picked::Short(_, _, _)) => 11,
+        Some(Picked::Extended(_, _, _)) => 17,
+        Some(Picked::Long(_, _)) => 37,
+        None => 0,
     }
 }
 
 // The flag, the length and the fields of the form picked, before n raster bytes; it answers the place behind.
-pub fn write_head(buf: &mut [u8], f: usize, black: bool, m: Measures, k: Picked, n: usize) -> usize
-    requires { (f ≤ 14) × (n ≤ 8192) × Judged (said m) × IsPicked (said m) n k × (head_length k ≤ length buf.old) }
-    ensures value { result ≡ head_length k }
-    ensures buf_after { buf.new ≡ head_for f black (said m) n k ++ drop result buf.old }
+fn write_form(buf: &mut [u8], f: usize, black: bool, m: Measures, k: Picked, n: usize) -> usize
+    requires { (f ≤ 14) × (n ≤ 8192) × Judged (said m) × IsPicked (said m) n k × (head_length (Some k) ≤ length buf.old) }
+    ensures value { result ≡ head_length (Some k) }
+    ensures buf_after { buf.new ≡ head_for f black (said m) n (Some k) ++ drop result buf.old }
 {
     match k {
         Picked::Short(dm, x, y) => write_short(buf, f, black, m, dm, x, y, n),
         Picked::Extended(dm, x, y) => write_extended(buf, f, black, m, dm, x, y, n),
         Picked::Long(x, y) => write_long(buf, f, black, m, x, y, n),
     }
+}
+
+// The same where a form holds; where none does there is no head, and nothing is written.
+pub fn write_head(
+    buf: &mut [u8],
+    f: usize,
+    black: bool,
+    m: Measures,
+    k: Option<Picked>,
+    n: usize,
+) -> usize
+    requires { (f ≤ 14) × (n ≤ 8192) × Judged (said m) × Picks (said m) n k × (head_length k ≤ length buf.old) }
+    ensures value { result ≡ head_length k }
+    ensures buf_after { buf.new ≡ head_for f black (said m) n k ++ drop result buf.old }
+{
+    let Some(form) = k else {
+        return 0;
+    };
+    write_form(buf, f, black, m, form, n)
 }

@@ -21,7 +21,8 @@ use Rattle.format.specs.Packing.{all_pixels, choice_in, packet_for, packed, pack
 use Rattle.format.proofs.FieldLaws.{length_fields}
 use Rattle.format.proofs.PackTheorems.{chosen_most, chosen_none}
 use Rattle.format.proofs.FormLaws.{values_for, values_for_lem, first_length, none_length}
-use Rattle.std.specs.Prelude.{Ok, Err}
+use Rattle.std.specs.Prelude.{Ok, Err, Some, None}
+use Rattle.std.specs.declared.option.Option.{Option}
 use Rattle.refusals.specs.Answers.{refused_at, numbers}
 use Rattle.refusals.proofs.NameLaws.{number_coded}
 use Rattle.size.specs.Sizes.{IsChosen}
@@ -91,8 +92,8 @@ head_length_lem p = let n = length_fields (kinds p.form) (fields p) in omega ari
 -- The packet in the form k is the one chosen; its head is the one for the form picked, and so long.
 record Formed (m : F.Measures) (f : ℕ) (black : Bool) (raster : List ℕ) (p : Picked) (k : Form) : Type 0 where
   first : first_form m (in_form f black m raster) ≡ ok (in_form f black m raster k)
-  head : head_for f black m (length raster) p ≡ head_of (in_form f black m raster k)
-  long : length (head_of (in_form f black m raster k)) ≡ head_length p
+  head : head_for f black m (length raster) (Some p) ≡ head_of (in_form f black m raster k)
+  long : length (head_of (in_form f black m raster k)) ≡ head_length (Some p)
 
 -- What an answer says of the raster.
 abbrev IsForm : F.Measures → ℕ → Bool → List ℕ → Picked → Type 0
@@ -127,10 +128,11 @@ unfolding raster_for
 choice_bytes_lem b w h r c = sym c.bytes
 
 -- and a head is short.
-pub head_small : (p : Picked) → head_length p ≤ 37
-head_small (Short dm x y) = omega arith
-head_small (Extended dm x y) = omega arith
-head_small (Long x y) = omega arith
+pub head_small : (p : Option Picked) → head_length p ≤ 37
+head_small (Some (Short dm x y)) = omega arith
+head_small (Some (Extended dm x y)) = omega arith
+head_small (Some (Long x y)) = omega arith
+head_small None = omega arith
 
 -- The packet's bytes, if the buffer has room for them.
 abbrev placed : ℕ → Packet → Result (List ℕ)
@@ -181,13 +183,13 @@ module _ (b : List ℕ) (w h : ℕ) (m : F.Measures) (t : Bitmap b w h m) (buffe
     unfolding in_form
     raster_is = refl
 
-    bytes_are : bytes_of (packet chosen_packet) ≡ head_for r.f black m r.bytes p ++ raster
+    bytes_are : bytes_of (packet chosen_packet) ≡ head_for r.f black m r.bytes (Some p) ++ raster
     bytes_are =
         bytes_head chosen_packet
         ∙ ap (λ (x : List ℕ). head_of chosen_packet ++ x) raster_is
-        ∙ ap (λ (x : List ℕ). x ++ raster) (sym some.is.head ∙ ap (λ (n : ℕ). head_for r.f black m n p) (sym raster_long))
+        ∙ ap (λ (x : List ℕ). x ++ raster) (sym some.is.head ∙ ap (λ (n : ℕ). head_for r.f black m n (Some p)) (sym raster_long))
 
-    bytes_long : length (bytes_of (packet chosen_packet)) ≡ head_length p + r.bytes
+    bytes_long : length (bytes_of (packet chosen_packet)) ≡ head_length (Some p) + r.bytes
     bytes_long =
         ap length (bytes_head chosen_packet) ∙ length-append (head_of chosen_packet) chosen_packet.raster
         ∙ rw (some.is.long, raster_is, ← raster_long) refl
@@ -197,7 +199,7 @@ module _ (b : List ℕ) (w h : ℕ) (m : F.Measures) (t : Bitmap b w h m) (buffe
     placed_so = packed_so ∙ rw some.is.first refl
 
     -- The buffer is too short.
-    module _ (l : length buffer < head_length p + r.bytes) where
+    module _ (l : length buffer < head_length (Some p) + r.bytes) where
       short_packed : packed b m (length buffer) ≡ fault no_room
       unfolding need ◌>>=◌
       short_packed = placed_so ∙ rw (lt-leb (length (bytes_of (packet chosen_packet))) (length buffer) (omega (arith, bytes_long))) refl
@@ -206,21 +208,21 @@ module _ (b : List ℕ) (w h : ℕ) (m : F.Measures) (t : Bitmap b w h m) (buffe
       short_refused = refuses b m buffer no_room refl short_packed
 
     -- The head is written, and the raster behind it.
-    module _ (l : head_length p + r.bytes ≤ length buffer) where
+    module _ (l : head_length (Some p) + r.bytes ≤ length buffer) where
       done_packed : packed b m (length buffer) ≡ ok (bytes_of (packet chosen_packet))
       unfolding need ◌>>=◌
       done_packed = placed_so ∙ rw (le-leb (length (bytes_of (packet chosen_packet))) (length buffer) (omega (arith, bytes_long))) refl
 
-      pub done_answer : (n : ℕ) → n ≡ head_length p + length raster → in_numbers (Ok n) ≡ told (pack_answer b m buffer)
+      pub done_answer : (n : ℕ) → n ≡ head_length (Some p) + length raster → in_numbers (Ok n) ≡ told (pack_answer b m buffer)
       unfolding numbers told pack_answer answers pack answer_at
-      done_answer n q = rw done_packed (ap says (q ∙ ap (λ (x : ℕ). head_length p + x) (sym raster_long) ∙ sym bytes_long))
+      done_answer n q = rw done_packed (ap says (q ∙ ap (λ (x : ℕ). head_length (Some p) + x) (sym raster_long) ∙ sym bytes_long))
 
-      pub done_buffer : (at n : ℕ) (d₁ d₂ : List ℕ) → at ≡ head_length p → d₁ ≡ head_for r.f black m r.bytes p ++ drop at buffer → n ≡ at + length raster
+      pub done_buffer : (at n : ℕ) (d₁ d₂ : List ℕ) → at ≡ head_length (Some p) → d₁ ≡ head_for r.f black m r.bytes (Some p) ++ drop at buffer → n ≡ at + length raster
           → d₂ ≡ take at d₁ ++ (raster ++ drop n d₁) → d₂ ≡ pack_buffer b m buffer
       unfolding pack_buffer lent pack answer_at
       done_buffer at n d₁ d₂ x y u v =
-          let head = head_for r.f black m r.bytes p in
-          let k : length head ≡ at = ap length (sym (ap (λ (j : ℕ). head_for r.f black m j p) (sym raster_long)) ∙ some.is.head) ∙ some.is.long ∙ sym x in
+          let head = head_for r.f black m r.bytes (Some p) in
+          let k : length head ≡ at = ap length (sym (ap (λ (j : ℕ). head_for r.f black m j (Some p)) (sym raster_long)) ∙ some.is.head) ∙ some.is.long ∙ sym x in
           let a : take at d₁ ≡ head = rw y (take_at head (drop at buffer) at k) in
           let o : drop at d₁ ≡ drop at buffer = rw y (drop_at head (drop at buffer) at k) in
           let g : drop n d₁ ≡ drop n buffer = rw u (sym (drop-drop (length raster) at d₁) ∙ ap (drop (length raster)) o ∙ drop-drop (length raster) at buffer) in

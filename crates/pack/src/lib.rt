@@ -90,12 +90,12 @@ fn pack_judged(b: walk::Bitmap, m: Measures, buf: &mut [u8]) -> Result<usize, Re
     let Some(form) = pick::pick_form(m, n) else {
         return Err(Refusal::NoForm.at(0));
     };
-    let head = head::head_length(form);
+    let head = head::head_length(Some(form));
     if buf.len() < head + n {
         return Err(Refusal::NoRoom.at(0));
     }
     let black = first_black(b.rows.pixels, f);
-    let at = head::write_head(buf, f, black, m, form, n);
+    let at = head::write_head(buf, f, black, m, Some(form), n);
     Ok(write_raster(b, f, &mut part, buf, at))
 }
 

@@ -25,11 +25,11 @@ const NONE: Run = Run {
 
 // The first n of the runs are kept, and the cursor is behind them. A full part is not taken for the whole list.
 // Kept: an array with its number, since nothing here allocates.
-#[derive(Drop)]
+#[derive(Clone, Copy)]
 pub struct Part {
-    runs: [Run; ROOM],
-    n: usize,
-    cursor: Cursor,
+    pub runs: [Run; ROOM],
+    pub n: usize,
+    pub cursor: Cursor,
 }
 
 impl Part {

@@ -5,6 +5,7 @@ use mathlib.Core.Bool.{Bool}
 use mathlib.Core.List.{◌++◌}
 use lib.ListN.{length, drop}
 use Rattle.measures.specs.Said.{said}
+use Rattle.std.specs.Prelude.{Some}
 use Rattle.head.specs.Head.{head_for, head_length}
 use Rattle.pack.proofs.PacketLaws.{none_refused, short_refused, done_answer, done_buffer, choice_f, choice_bytes_lem}
 use Rattle.pack.proofs.pack_judged.Goals as goal
@@ -34,10 +35,10 @@ returns c =
     let r = c.choose-chosen.result in
     let k = c.in-Some.form in
     let e = c.in-Some.ensures in
-    let l : head_length k + r.bytes ≤ length n = omega (arith, c.head_length-head.ensures) in
+    let l : head_length (Some k) + r.bytes ≤ length n = omega (arith, c.head_length-head.ensures) in
     record {
       result_value = done_answer _ _ _ _ c.requires n r c.choose-chosen.ensures.chosen k e l _ (omega (arith, c.write_raster.ensures.value, c.write_head-at.ensures.value));
       buf_after = done_buffer _ _ _ _ c.requires n r c.choose-chosen.ensures.chosen k e l c.write_head-at.result _ _ _ c.write_head-at.ensures.value
-          (c.write_head-at.ensures.buf_after ∙ ap (λ (x : Bool). head_for r.f x (said c.args.m) r.bytes k ++ drop c.write_head-at.result n) c.first_black-black.ensures)
+          (c.write_head-at.ensures.buf_after ∙ ap (λ (x : Bool). head_for r.f x (said c.args.m) r.bytes (Some k) ++ drop c.write_head-at.result n) c.first_black-black.ensures)
           c.write_raster.ensures.value c.write_raster.ensures.buf_after;
     }

@@ -1,6 +1,6 @@
 use Rattle.measures.specs.Said.{said}
 use Rattle.head.proofs.HeadLaws.{ready_short, ready_extended, ready_long}
-use Rattle.head.proofs.write_head.Goals as goal
+use Rattle.head.proofs.write_form.Goals as goal
 
 pub write_short-requires : goal.write_short-requires
 write_short-requires c =
