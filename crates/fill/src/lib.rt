@@ -17,10 +17,7 @@ fn copy_row(buf: &mut [u8], at: usize, w: usize)
     requires { (w ≤ at) × (at + w ≤ length buf.old) }
     ensures { buf.new ≡ take at buf.old ++ (last_row w (take at buf.old) ++ drop (at + w) buf.old) }
 {
-    // Kept: the library's copy_within goes backwards, a byte at a time, which takes up to twice the time.
-    for i in 0..w {
-        buf[at + i] = buf[at - w + i];
-    }
+    buf.copy_within(at - w..at, at);
 }
 
 // The same t times; it answers the place behind.
@@ -28,10 +25,12 @@ pub fn copy_rows(buf: &mut [u8], at: usize, w: usize, t: usize) -> usize
     requires { (w ≤ at) × (at + t * w ≤ length buf.old) }
     ensures { (result ≡ at + t * w) × (buf.new ≡ take at buf.old ++ (times t (last_row w (take at buf.old)) ++ drop (at + t * w) buf.old)) }
 {
-    let mut to = at;
-    for _ in 0..t {
-        copy_row(buf, to, w);
-        to += w;
+    let mut done: usize = 0;
+    // Kept: it counts no rows one by one. Each turn sends as many as stand there already.
+    while done < t {
+        let more = (done + 1).min(t - done);
+        copy_row(buf, at + done * w, more * w);
+        done += more;
     }
-    to
+    at + t * w
 }

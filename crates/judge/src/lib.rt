@@ -54,7 +54,8 @@ fn finish(s: &[u8], at: usize) -> Result<(), Refusal>
     Ok(())
 }
 
-// With f from 0 to 13: the runs and repeats up to h full rows.
+// With f from 0 to 13: the runs and repeats up to h full rows. A call, so that the loop has the registers for itself.
+#[inline(never)]
 fn judge_runs(s: &[u8], f: Factor, w: usize, h: usize, black: bool) -> Result<(), Refusal>
     requires { (1 ≤ w) × (1 ≤ h) × (w * h ≤ 65536) }
     ensures { result ≡ judged (reading f.n w h s.now) }

@@ -177,8 +177,6 @@ fn long(s: &[u8], at: usize, b: usize) -> Result<Piece, Refusal>
 
 // The packet with the flag b, whose fields stand at `at`.
 // Kept: the bits that `Form::of` reads are told apart here, since a second test on its answer cost drawing at 72 dpi six in a hundred.
-// A call, so that in pieces::piece_at a command's few fields are not copied with those of an outline.
-#[inline(never)]
 #[tactic(auto, unfolding(format::specs::Verdict::form_of))]
 pub fn packet_at(s: &[u8], at: usize, b: usize) -> Result<Piece, Refusal>
     requires { at ≤ length s.now }

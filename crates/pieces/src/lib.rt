@@ -59,7 +59,8 @@ fn behind(font: &[u8], at: usize, b: usize) -> Result<Piece, Refusal>
     }
 }
 
-// The piece that begins at `at`.
+// The piece that begins at `at`. Built into its callers, so that no outline is copied for a command.
+#[inline(always)]
 pub fn piece_at(font: &[u8], at: usize) -> Result<Piece, Refusal>
     ensures { result ≡ piece_of (length font.now) (step (drop at font.now)) }
 {
