@@ -26,7 +26,7 @@ pub fn copy_rows(buf: &mut [u8], at: usize, w: usize, t: usize) -> usize
     ensures { (result ≡ at + t * w) × (buf.new ≡ take at buf.old ++ (times t (last_row w (take at buf.old)) ++ drop (at + t * w) buf.old)) }
 {
     let mut done: usize = 0;
-    // Kept: it counts no rows one by one. Each turn sends as many as stand there already.
+    // Kept: a while, since each turn sends as many rows as stand there already.
     while done < t {
         let more = (done + 1).min(t - done);
         copy_row(buf, at + done * w, more * w);
