@@ -15,7 +15,6 @@ use refusals::Refusal;
 use state::State;
 
 // The item at `at`, read and judged: the state after it and the place of the next nybble.
-// Kept: runs of one or two nybbles, which most are, first and here. By items::item_at the loop over them took a quarter more time.
 fn turn_at(
     s: &[u8],
     at: usize,
@@ -27,10 +26,7 @@ fn turn_at(
     requires { Within w h (plain state) }
     ensures { result ≡ to_turn s.now state.black (turn f.n w h (plain state) (from s.now at)) }
 {
-    if let Some(short) = packed::short_at(s, at, f) {
-        return Ok((state.run(w, h, short.n)?, short.next));
-    }
-    match items::other_at(s, at, f, state.repeat)? {
+    match items::item_at(s, at, f, state.repeat)? {
         Item::Run(n, next) => Ok((state.run(w, h, n)?, next)),
         Item::Repeat(n, next) => Ok((state.repeat(h, n)?, next)),
     }
@@ -54,8 +50,7 @@ fn finish(s: &[u8], at: usize) -> Result<(), Refusal>
     Ok(())
 }
 
-// With f from 0 to 13: the runs and repeats up to h full rows. A call, so that the loop has the registers for itself.
-#[inline(never)]
+// With f from 0 to 13: the runs and repeats up to h full rows.
 fn judge_runs(s: &[u8], f: Factor, w: usize, h: usize, black: bool) -> Result<(), Refusal>
     requires { (1 ≤ w) × (1 ≤ h) × (w * h ≤ 65536) }
     ensures { result ≡ judged (reading f.n w h s.now) }

@@ -57,8 +57,7 @@ pub fn limit_of(f: Factor) -> usize
     LIMITS[f.n]
 }
 
-// The place of the first nybble from at on that is not zero, or the end of the nybbles. A call: built into `read_large`, its loop took a quarter
-// more time.
+// The place of the first nybble from at on that is not zero, or the end of the nybbles. A call: built into its caller, the loop was slower.
 #[inline(never)]
 fn skip_zeros(s: &[u8], at: usize) -> usize
     requires { at ≤ 2 * length s.now }
